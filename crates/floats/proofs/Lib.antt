@@ -1,0 +1,10 @@
+pub mod Order
+pub mod Rounding
+pub mod Monotone
+pub mod Half
+pub mod Next
+pub mod Distance
+pub mod Span
+pub mod Bounds
+pub mod Patterns
+pub mod Theorems

@@ -1,0 +1,20 @@
+-- `geometry::space::Cube::intersects` meets its contract. Assumes nothing.
+use borrow.Author.Needs.{needs}
+use Rattle.geometry.proofs.Axes.{meets-last, meets-more}
+use Rattle.geometry.proofs.space.Cube.intersects.Statement.{statement}
+use Rattle.geometry.proofs.space.Cube.intersects.Tie as tie
+
+touches-requires : tie.Need-touches-requires
+touches-requires c κs = search needs
+
+touches-requires-2 : tie.Need-touches-requires-2
+touches-requires-2 c κs = search needs
+
+touches-requires-3 : tie.Need-touches-requires-3
+touches-requires-3 c κs = search needs
+
+returns : tie.Need-returns
+returns c = meets-more _ _ _ _ _ _ (c .before .before .touches .ensures) (meets-more _ _ _ _ _ _ (c .before .touches2 .ensures) (meets-last _ _ _ (c .touches3 .ensures)))
+
+pub intersects-spec : {M : Type 1} → statement M
+intersects-spec = tie.close (tie.spec touches-requires touches-requires-2 touches-requires-3 returns)

@@ -1,0 +1,5 @@
+pub mod Lists
+pub mod Inside
+pub mod Distance
+pub mod Meet
+pub mod Theorems

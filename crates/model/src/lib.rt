@@ -1,0 +1,1 @@
+// What the trees mean, as definitions in specs/, and what is true of it, in proofs/. Nothing here runs.

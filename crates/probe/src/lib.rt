@@ -1,0 +1,152 @@
+// C entry points for the oracle's runs: each hands its numbers to the function that is compared with the Rust.
+ghost use mathlib.Core.Path.{_≡_};
+ghost use lib.Ieee.{binary64, ofBits, toBits};
+ghost use Rattle.floats.specs.Next.{nextUp};
+ghost use Rattle.floats.specs.Span.{span};
+ghost use Rattle.model.specs.Boxes.{mid, axisDistance, inside, meets, samePlace, route, part, squared, nodeDistance};
+ghost use Rattle.geometry.specs.Sides.{side, sides2, sides3, place2, place3};
+use geometry::axis;
+use geometry::plane::Point2D;
+use geometry::plane::Rectangle;
+use geometry::space::Cube;
+use geometry::space::Point3D;
+
+#[no_mangle]
+pub extern "C" fn probe_to_bits(x: f64) -> u64
+    ensures { λ r. ⌜ r ≡ toBits binary64 x ⌝ }
+{
+    floats::to_bits(x)
+}
+
+#[no_mangle]
+pub extern "C" fn probe_from_bits(b: u64) -> f64
+    ensures { λ r. ⌜ r ≡ ofBits binary64 b ⌝ }
+{
+    floats::from_bits(b)
+}
+
+#[no_mangle]
+pub extern "C" fn probe_next_up(x: f64) -> f64
+    ensures { λ r. ⌜ r ≡ nextUp binary64 x ⌝ }
+{
+    floats::next_up(x)
+}
+
+#[no_mangle]
+pub extern "C" fn probe_span(lo: f64, hi: f64) -> f64
+    ensures { λ r. ⌜ r ≡ span binary64 lo hi ⌝ }
+{
+    axis::span(lo, hi)
+}
+
+#[no_mangle]
+pub extern "C" fn probe_midplane(corner: f64, extent: f64) -> f64
+    ensures { λ r. ⌜ r ≡ mid (side corner extent) ⌝ }
+{
+    axis::midplane(corner, extent)
+}
+
+#[no_mangle]
+pub extern "C" fn probe_axis_distance(v: f64, lo: f64, len: f64) -> f64
+    ensures { λ r. ⌜ r ≡ axisDistance (side lo len) v ⌝ }
+{
+    axis::axis_distance(v, lo, len)
+}
+
+#[no_mangle]
+pub extern "C" fn probe_contains_2d(r: Rectangle, p: Point2D) -> bool
+    ensures { λ a. ⌜ a ≡ inside (sides2 r) (place2 p) ⌝ }
+{
+    r.contains(p)
+}
+
+#[no_mangle]
+pub extern "C" fn probe_contains_3d(c: Cube, p: Point3D) -> bool
+    ensures { λ a. ⌜ a ≡ inside (sides3 c) (place3 p) ⌝ }
+{
+    c.contains(p)
+}
+
+#[no_mangle]
+pub extern "C" fn probe_intersects_2d(r: Rectangle, other: Rectangle) -> bool
+    ensures { λ a. ⌜ a ≡ meets (sides2 r) (sides2 other) ⌝ }
+{
+    r.intersects(other)
+}
+
+#[no_mangle]
+pub extern "C" fn probe_intersects_3d(c: Cube, other: Cube) -> bool
+    ensures { λ a. ⌜ a ≡ meets (sides3 c) (sides3 other) ⌝ }
+{
+    c.intersects(other)
+}
+
+#[no_mangle]
+pub extern "C" fn probe_child_index_2d(r: Rectangle, p: Point2D) -> usize
+    ensures { λ a. ⌜ a ≡ route (sides2 r) (place2 p) ⌝ }
+{
+    r.child_index(p)
+}
+
+#[no_mangle]
+pub extern "C" fn probe_child_index_3d(c: Cube, p: Point3D) -> usize
+    ensures { λ a. ⌜ a ≡ route (sides3 c) (place3 p) ⌝ }
+{
+    c.child_index(p)
+}
+
+#[no_mangle]
+pub extern "C" fn probe_child_2d(r: Rectangle, i: usize) -> Rectangle
+    ensures { λ a. ⌜ sides2 a ≡ part (sides2 r) i ⌝ }
+{
+    r.child(i)
+}
+
+#[no_mangle]
+pub extern "C" fn probe_child_3d(c: Cube, i: usize) -> Cube
+    ensures { λ a. ⌜ sides3 a ≡ part (sides3 c) i ⌝ }
+{
+    c.child(i)
+}
+
+#[no_mangle]
+pub extern "C" fn probe_min_distance_sq_2d(r: Rectangle, p: Point2D) -> f64
+    ensures { λ a. ⌜ a ≡ nodeDistance (sides2 r) (place2 p) ⌝ }
+{
+    r.min_distance_sq(p)
+}
+
+#[no_mangle]
+pub extern "C" fn probe_min_distance_sq_3d(c: Cube, p: Point3D) -> f64
+    ensures { λ a. ⌜ a ≡ nodeDistance (sides3 c) (place3 p) ⌝ }
+{
+    c.min_distance_sq(p)
+}
+
+#[no_mangle]
+pub extern "C" fn probe_distance_sq_2d(p: Point2D, other: Point2D) -> f64
+    ensures { λ a. ⌜ a ≡ squared (place2 p) (place2 other) ⌝ }
+{
+    p.distance_sq(other)
+}
+
+#[no_mangle]
+pub extern "C" fn probe_distance_sq_3d(p: Point3D, other: Point3D) -> f64
+    ensures { λ a. ⌜ a ≡ squared (place3 p) (place3 other) ⌝ }
+{
+    p.distance_sq(other)
+}
+
+#[no_mangle]
+pub extern "C" fn probe_same_2d(p: Point2D, other: Point2D) -> bool
+    ensures { λ a. ⌜ a ≡ samePlace (place2 p) (place2 other) ⌝ }
+{
+    p.same(other)
+}
+
+#[no_mangle]
+pub extern "C" fn probe_same_3d(p: Point3D, other: Point3D) -> bool
+    ensures { λ a. ⌜ a ≡ samePlace (place3 p) (place3 other) ⌝ }
+{
+    p.same(other)
+}
