@@ -1,5 +1,5 @@
 -- Values within 2 ^ j of zero: they are finite, a sum or a difference of two is within 2 ^ (j + 1), and an edge that `span` reaches is within 2 ^ (j + 3). Assumes nothing.
-use mathlib.Core.Path.{_≡_, refl, sym, ap, _∙_, subst}
+use mathlib.Core.Path.{_≡_, sym, ap, _∙_, subst}
 use mathlib.Core.Logic.{inl, inr}
 use Prim.Native.Nat.{ℕ, suc, _+_, _-_, _*_, _^_, _≤_, _<_, zero-le, suc-le-suc}
 use native.Mathlib.Nat.{le-trans, le-of-eq, lt-of-lt-of-le, lt-of-le-of-lt, lt-irrefl, mul-one, one-mul, div-one, suc-add, two-pow-succ}
@@ -16,8 +16,8 @@ use Rattle.floats.specs.Next.{nextUp}
 use Rattle.floats.specs.Span.{span}
 use Rattle.floats.proofs.Order.{mag, P, N, num?, le→key, key→le, le-nums}
 use Rattle.floats.proofs.Rounding.{G, G-mono, exact, Rounded, add-key, sub-key}
-use Rattle.floats.proofs.Monotone.{one-sided, Nonneg, finite-num}
-use Rattle.floats.proofs.Next.{Next, next-up}
+use Rattle.floats.proofs.Monotone.{one-sided, Nonneg}
+use Rattle.floats.proofs.Next.{next-up}
 use Rattle.floats.proofs.Span.{finite-lt, next-positive, positive-P, Edges, len-nonneg, span-kind, span-reaches}
 
 abbrev pub Within : ℕ → Float → Type 0

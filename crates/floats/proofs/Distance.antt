@@ -8,7 +8,7 @@ use mathlib.Core.Bool.{true, false}
 use lib.Dec.{T}
 use lib.Ieee.{Float, nan, inf, fin, Format, neg, add, sub, mul, le, fits}
 use lib.Ieee.Fits.{sub-fits}
-use lib.Ieee.Scale.{overflow, finite}
+use lib.Ieee.Scale.{overflow}
 use Rattle.floats.proofs.Order.{mag, P, N, num?, le→key, le-nums, le-reflexive}
 use Rattle.floats.proofs.Rounding.{G, G-zero, sub-key}
 use Rattle.floats.proofs.Monotone.{Nonneg, nonneg-mag, sub-mono, square-mono, nonneg-up}

@@ -1,17 +1,17 @@
 -- A value plus something that is not below zero is no smaller; and half of an extent moves a corner no further than the extent. Assumes nothing.
-use mathlib.Core.Path.{_≡_, refl, sym, ap, _∙_, subst}
-use Prim.Native.Nat.{ℕ, zero, suc, _+_, _-_, _*_, _/_, _%_, _^_, _≤_, _<_, zero-le}
+use mathlib.Core.Path.{_≡_, refl, sym, ap, _∙_}
+use Prim.Native.Nat.{ℕ, zero, _+_, _*_, _^_, _≤_}
 use native.Mathlib.Nat.{le-trans, le-refl, le-of-eq, mul-pos, sub-zero, zero-sub}
 use native.Mathlib.Omega.{arith}
 use mathlib.Core.Bool.{Bool, true, false, not, cond}
-use lib.IntN.{ℤ, pos, negsuc}
+use lib.IntN.{ℤ}
 use lib.Dec.{T, lit≤}
 use lib.Pow.{pow-pos}
-use lib.Ieee.{Float, nan, inf, fin, Format, low, up, down, round, add, div, le, fits}
-use lib.Ieee.Fits.{down-pos, round-fits, add-fits, div-fits}
+use lib.Ieee.{Float, nan, inf, fin, Format, low, up, down, add, div, le, fits}
+use lib.Ieee.Fits.{down-pos, add-fits, div-fits}
 use lib.Ieee.Scale.{finite}
 use Rattle.floats.specs.Values.{two}
-use Rattle.floats.proofs.Order.{mag, P, N, num?, mag-eq, key→le, le-reflexive}
+use Rattle.floats.proofs.Order.{mag, P, N, mag-eq, key→le, le-reflexive}
 use Rattle.floats.proofs.Rounding.{Signed, signed-P, signed-N, Rounded, rm, rm-mono, round-signed, G, G-fixed, G-zero, add-key}
 use Rattle.floats.proofs.Monotone.{Nonneg, rounded-le, le-top, finite-num, add-num-l, add-mono, nonneg-not-bottom}
 

@@ -1,19 +1,19 @@
 -- Sums, differences and squares keep the order, over all signs, both zeros and the infinities. Assumes nothing.
 use mathlib.Core.Path.{_≡_, refl, sym, ap, _∙_, subst}
 use mathlib.Core.Logic.{_⊎_, inl, inr}
-use Prim.Native.Nat.{ℕ, zero, suc, _+_, _-_, _*_, _/_, _%_, _^_, _≤_, _<_, zero-le}
-use native.Mathlib.Nat.{div-one, zero-mul, lt-of-le-of-lt, le-trans, le-refl, le-of-eq, le-of-lt, lt-of-lt-of-le, lt-irrefl, mul-le-mul, mul-pos, mul-mul-mul-comm, mul-comm}
+use Prim.Native.Nat.{ℕ, zero, suc, _+_, _-_, _*_, _^_, _≤_}
+use native.Mathlib.Nat.{lt-of-le-of-lt, le-trans, le-refl, le-of-eq, lt-of-lt-of-le, lt-irrefl, mul-le-mul, mul-pos, mul-mul-mul-comm}
 use native.Mathlib.Omega.{arith}
-use mathlib.Core.Bool.{Bool, true, false, not, _&&_, _||_, Bool·beq, cond}
-use lib.IntN.{ℤ, pos, negsuc}
+use mathlib.Core.Bool.{Bool, true, false, not}
+use lib.IntN.{ℤ}
 use lib.Dec.{T}
 use lib.Pow.{pow-pos}
-use lib.Ieee.{Float, nan, inf, fin, Format, prec, emax, low, up, down, unlike, round, neg, add, sub, mul, le, fits}
-use lib.Ieee.Fits.{down-pos, round-fits, add-fits, sub-fits, mul-fits, neg-fits, inf-fits}
+use lib.Ieee.{Float, nan, inf, fin, Format, emax, low, up, down, unlike, round, neg, add, sub, mul, le, fits}
+use lib.Ieee.Fits.{down-pos, add-fits, mul-fits, neg-fits}
 use lib.Ieee.Scale.{overflow, finite}
 use Rattle.floats.specs.Values.{plusZero}
-use Rattle.floats.proofs.Order.{mag, sgn, P, N, num?, Le, Lt, mag-lt, le→key, key→le, le-nums, le-reflexive, le-transitive, scale-le, left, right, zero-mag, zero-fits}
-use Rattle.floats.proofs.Rounding.{Signed, signed-P, signed-N, Rounded, rm, rm-mono, round-signed, G, G-mono, G-zero, mag-le, add-key, neg-P, neg-N, neg-finite}
+use Rattle.floats.proofs.Order.{mag, P, N, num?, mag-lt, le→key, key→le, le-nums, le-reflexive, le-transitive, scale-le, left, right, zero-mag, zero-fits}
+use Rattle.floats.proofs.Rounding.{Signed, signed-P, signed-N, Rounded, rm, rm-mono, round-signed, G, G-mono, G-zero, add-key, neg-P, neg-N, neg-finite}
 
 -- ---- the least and the greatest value
 pub bottom-le : (f : Format) (y : Float) → T (fits f y) → T (num? y) → T (le (inf true) y)

@@ -1,15 +1,15 @@
 -- The next value up is larger, and no value of the format stands between: for every value below +∞, of either sign. Assumes nothing.
 use mathlib.Core.Path.{_≡_, refl, sym, ap, _∙_, subst}
-use mathlib.Core.Logic.{_⊎_, inl, inr}
+use mathlib.Core.Logic.{inl, inr}
 use Prim.Native.Nat.{ℕ, zero, suc, _+_, _-_, _*_, _/_, _%_, _^_, _≤_, _<_, zero-le}
 use native.Mathlib.Nat.{add-assoc, le-trans, le-refl, le-of-eq, le-of-lt, lt-of-lt-of-le, lt-of-le-of-lt, lt-irrefl, lt-of-not-le, not-le-of-lt, eq-or-lt-of-le, mul-le-mul-right, le-div-iff-mul-le, mod-eq-of-lt, add-mod-left, pow-succ', zero-add}
 use native.Mathlib.Omega.{arith}
 use mathlib.Core.Bool.{Bool, true, false, not, cond}
-use lib.IntN.{ℤ, pos, negsuc}
-use lib.Dec.{T, not-T, T-not}
+use lib.IntN.{ℤ}
+use lib.Dec.{T}
 use lib.Arith.{le→nltb}
 use lib.Pow.{pow-add, pow-pos, shr-mono}
-use lib.Ieee.{Float, nan, inf, fin, Format, prec, emax, low, up, down, size, fits, isNan, lt, hid, ones, top, ofBits, nanBits, toBits}
+use lib.Ieee.{Float, nan, inf, fin, Format, prec, emax, low, up, size, fits, isNan, lt, hid, ones, top, ofBits, nanBits, toBits}
 use lib.Ieee.Fits.{reach, two, two-le-pos, kept-lt, inf-fits}
 use lib.Ieee.Digits.{size-lt, size-le, size-reaches}
 use lib.Ieee.Bits.{is-true, ofBits-fits, ofBits-toBits, toBits-ofBits, nanBits-is, nanBits-above}

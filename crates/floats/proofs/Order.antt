@@ -1,17 +1,16 @@
 -- The order of the values of a format, by whole numbers. A value that fits is a whole number of the format's smallest values: `P` counts them above zero, `N` below.
 -- An infinity counts as 2 ^ (low + emax + 1), which no finite value reaches. Two values that are no NaN compare as P - N does. Assumes nothing.
-use mathlib.Core.Path.{_≡_, refl, sym, ap, _∙_, subst}
+use mathlib.Core.Path.{_≡_, refl, sym, ap, _∙_}
 use mathlib.Core.Logic.{_⊎_, inl, inr}
 use Prim.Native.Nat.{ℕ, zero, suc, _+_, _-_, _*_, _/_, _%_, _^_, _≤_, _<_}
-use native.Mathlib.Nat.{eq-or-lt-of-le, not-le-of-lt, le-of-suc-le-suc, lt-of-not-le, lt-irrefl, lt-of-lt-of-le, lt-of-le-of-lt, sub-add-cancel, one-mul, zero-mul, add-mul, le-trans, le-of-eq, le-of-lt, mul-comm, mul-assoc, mul-left-comm, mul-right-comm, mul-le-mul-right, mul-lt-mul-of-pos-right, le-of-mul-le-mul-right, lt-of-mul-lt-mul-right, eq-of-mul-eq-mul-right, mul-pos, mul-one, mul-div-cancel, div-one}
+use native.Mathlib.Nat.{eq-or-lt-of-le, not-le-of-lt, le-of-suc-le-suc, lt-of-not-le, lt-irrefl, lt-of-lt-of-le, lt-of-le-of-lt, sub-add-cancel, one-mul, zero-mul, le-trans, le-of-eq, le-of-lt, mul-comm, mul-assoc, mul-right-comm, mul-le-mul-right, mul-lt-mul-of-pos-right, le-of-mul-le-mul-right, lt-of-mul-lt-mul-right, eq-of-mul-eq-mul-right, mul-pos, mul-one, mul-div-cancel, div-one}
 use native.Mathlib.Omega.{arith}
 use mathlib.Core.Bool.{Bool, true, false, not, _&&_, _||_, Bool·beq, cond}
 use lib.IntN.{ℤ, pos, negsuc}
-use lib.Dec.{T, leb, ltb, eqb, leb→le, nleb→lt, eqb→eq, eqb-refl, ltb→lt, lt→ltb, nltb→le, lit≤}
-use lib.Arith.{lt-of-le-ne}
-use lib.Pow.{pow-add, pow-pos, pow-mono, pow-lt}
+use lib.Dec.{T, leb, ltb, eqb, leb→le, nleb→lt, eqb→eq, ltb→lt, lt→ltb, lit≤}
+use lib.Pow.{pow-add, pow-pos, pow-lt}
 use lib.Ieee.{Float, nan, inf, fin, Format, prec, emax, low, up, down, below, level, lt, eq, le, fits, isNan}
-use lib.Ieee.Fits.{and-i, eq→eqb, and-l, and-r, up-pos, down-pos}
+use lib.Ieee.Fits.{and-i, eq→eqb, and-l, and-r, down-pos}
 use lib.Ieee.Scale.{overflow}
 use Rattle.floats.specs.Values.{plusZero}
 

@@ -1,19 +1,18 @@
 -- Rounding, in units. The counts of a sum or a difference are the exact ones, rounded by `G`; G keeps the order and leaves the count of every value as it is. Assumes nothing.
 use mathlib.Core.Path.{_≡_, refl, sym, ap, _∙_, subst}
-use mathlib.Core.Logic.{_⊎_, inl, inr}
 use Prim.Native.Nat.{ℕ, zero, suc, _+_, _-_, _*_, _/_, _%_, _^_, _≤_, _<_, zero-le}
-use native.Mathlib.Nat.{le-trans, le-refl, le-of-eq, le-of-lt, le-antisymm, lt-of-lt-of-le, lt-of-le-of-lt, mul-comm, mul-assoc, mul-right-comm, mul-le-mul, mul-le-mul-right, mul-lt-mul-of-pos-right, mul-pos, mul-one, one-mul, zero-mul, mul-sub, mul-div-cancel, div-one, sub-add-cancel, eq-zero-or-pos, mul-mul-mul-comm}
+use native.Mathlib.Nat.{le-trans, le-refl, le-of-eq, le-of-lt, mul-comm, mul-assoc, mul-le-mul-right, mul-pos, mul-one, mul-sub, mul-div-cancel, div-one, sub-add-cancel}
 use native.Mathlib.Omega.{arith}
-use mathlib.Core.Bool.{Bool, true, false, not, _&&_, _||_, Bool·beq, cond}
+use mathlib.Core.Bool.{Bool, true, false, not, _&&_, cond}
 use lib.IntN.{ℤ, pos, negsuc}
-use lib.Dec.{T, leb, ltb, eqb, leb→le, eqb→eq, ltb→lt, lt→ltb, nltb→le, lit≤}
-use lib.Pow.{pow-add, pow-pos, pow-mono, pow-lt}
-use lib.Ieee.{Float, nan, inf, fin, Format, prec, emax, low, up, down, size, odd, units, round, neg, sum, add, sub, mul, div, le, fits}
-use lib.Ieee.Fits.{neg-fits, and-l, and-r, up-pos, down-pos, core, round-is, round-fits, two, two-le-pos}
+use lib.Dec.{T, leb, ltb, eqb, ltb→lt, nltb→le}
+use lib.Pow.{pow-add, pow-pos}
+use lib.Ieee.{Float, nan, inf, fin, Format, prec, emax, low, up, down, size, odd, units, round, neg, sum, add, sub, fits}
+use lib.Ieee.Fits.{neg-fits, and-l, and-r, down-pos, round-fits, two}
 use lib.Ieee.Exact.{HasValue, round-exact}
 use lib.Ieee.Order.{round-mono}
 use lib.Ieee.Scale.{overflow, finite, round-same}
-use Rattle.floats.proofs.Order.{mag, sgn, P, N, num?, Le, Lt, mag-eq, mag-lt, le→key, key→le, fits-down, pow-le-back, scale-le, scale-lt, sum-scale, left, right}
+use Rattle.floats.proofs.Order.{mag, sgn, P, N, num?, Le, mag-lt, le→key, fits-down, pow-le-back, scale-le, scale-lt, sum-scale, left, right}
 
 -- ---- x has the sign s and the size v
 abbrev pub Signed : Format → Bool → ℕ → Float → Type 0

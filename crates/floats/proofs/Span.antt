@@ -1,5 +1,5 @@
 -- The extent that `span` gives between two edges reaches the far one, and one step is enough. Assumes nothing.
-use mathlib.Core.Path.{_≡_, refl, sym, ap, _∙_, subst}
+use mathlib.Core.Path.{_≡_, refl, sym, _∙_, subst}
 use mathlib.Core.Logic.{_⊎_, inl, inr}
 use Prim.Native.Nat.{ℕ, zero, suc, _+_, _-_, _*_, _^_, _≤_, _<_, zero-le}
 use native.Mathlib.Nat.{le-trans, le-of-eq, le-of-lt, lt-of-lt-of-le, lt-of-le-of-lt, lt-irrefl}
@@ -8,19 +8,18 @@ use mathlib.Core.Bool.{Bool, true, false, not, _&&_}
 use lib.IntN.{ℤ}
 use lib.Dec.{T, T-not, lit≤}
 use lib.Pow.{pow-mono, pow-lt}
-use lib.Ieee.{Float, nan, inf, fin, Format, prec, emax, low, add, sub, lt, le, fits}
+use lib.Ieee.{Float, nan, inf, fin, Format, emax, low, add, sub, lt, le, fits}
 use lib.Ieee.Fits.{and-l, and-r, add-fits, sub-fits, two}
-use lib.Ieee.Bits.{is-true, is-false}
 use lib.Ieee.Scale.{overflow, finite}
 use Rattle.floats.specs.Values.{plusZero}
 use Rattle.floats.specs.Next.{nextUp}
 use Rattle.floats.specs.Span.{short, lengthened, span}
-use Rattle.floats.proofs.Order.{mag, P, N, num?, zero-mag, zero-fits, lt→key, key→lt, lt→nle, lt-is, nat-total}
+use Rattle.floats.proofs.Order.{mag, P, N, zero-mag, zero-fits, lt→key, key→lt, lt→nle, lt-is, nat-total}
 use Rattle.floats.proofs.Rounding.{G, G-mono, G-zero, G-fixed, exact, add-key, sub-key}
-use Rattle.floats.proofs.Monotone.{one-sided, Nonneg, nonneg-not-bottom, rounded-le, le-top, finite-num, add-num-l, sub-num-l}
+use Rattle.floats.proofs.Monotone.{one-sided, Nonneg, nonneg-not-bottom, rounded-le, le-top, finite-num, add-num-l}
 use Rattle.floats.proofs.Half.{self-rounded}
 use Rattle.floats.proofs.Distance.{sub-nonneg}
-use Rattle.floats.proofs.Next.{Next, next-up}
+use Rattle.floats.proofs.Next.{next-up}
 
 -- ---- the next value up from one that is finite and above zero
 pub finite-lt : (x : Float) → T (finite x) → T (lt x (inf false))

@@ -1,19 +1,18 @@
 -- What is true of binary64: the laws of the other files, said at the format that the code uses. Assumes nothing.
 use mathlib.Core.Path.{_≡_, refl}
 use mathlib.Core.Logic.{_⊎_}
-use mathlib.Core.Bool.{Bool, false, not}
+use mathlib.Core.Bool.{false, not}
 use lib.Dec.{T}
-use lib.Ieee.{Float, nan, inf, binary64, add, sub, mul, lt, le, eq, fits, isNan, ofBits, toBits}
+use lib.Ieee.{Float, nan, inf, binary64, add, sub, mul, lt, le, fits, isNan, ofBits, toBits}
 use lib.Ieee.Scale.{finite}
 use Rattle.floats.specs.Values.{plusZero}
 use Rattle.floats.specs.Next.{nextUp}
 use Rattle.floats.specs.Span.{lengthened, span}
-use Rattle.floats.proofs.Order.{num?, num-of, of-num, le-reflexive, le-transitive, le-total, lt-is, nan-le, le-nan, lt→key, key→lt, key→le, lt-nums, lt→le, eq-reflexive, eq-symmetric, eq-transitive}
+use Rattle.floats.proofs.Order.{num-of, le-transitive, le-total, lt-is, nan-le, le-nan, lt→key, key→lt, key→le, lt-nums, lt→le}
 use Rattle.floats.proofs.Monotone.{le→nonneg, nonneg-add-mono}
-use Rattle.floats.proofs.Next.{Next, next-up}
+use Rattle.floats.proofs.Next.{next-up}
 use Rattle.floats.proofs.Distance.{Between}
 use Rattle.floats.proofs.Distance as distance
-use Rattle.floats.proofs.Span.{Edges}
 use Rattle.floats.proofs.Span as spans
 
 -- a value that an f64 can have, and one that is no NaN

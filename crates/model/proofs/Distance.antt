@@ -1,12 +1,11 @@
 -- The node distance of a box is at most the distance of any place inside it, for a centre without NaN. For every box whatever, over any number of axes. Assumes nothing.
 use Prim.Native.Nat.{_≤_, zero-le}
 use native.Mathlib.Nat.{le-trans, le-of-eq}
-use mathlib.Core.Path.{_≡_, refl, sym}
 use mathlib.Core.Logic.{inl, inr}
-use mathlib.Core.Bool.{Bool, true, false, _&&_, cond}
+use mathlib.Core.Bool.{Bool, true, false, cond}
 use mathlib.Core.List.{List, [], _∷_, zipWith}
 use lib.Dec.{T}
-use lib.Ieee.{Float, nan, inf, fin, binary64, add, sub, mul, le, lt, eq}
+use lib.Ieee.{Float, nan, inf, fin, binary64, add, sub, le, lt}
 use lib.Ieee.Fits.{and-l, and-r, add-fits, sub-fits, mul-fits, cond-fits}
 use lib.Ieee.Scale.{finite}
 use Rattle.floats.specs.Values.{plusZero}

@@ -9,7 +9,6 @@ use lib.IntN.{pos}
 use lib.Dec.{T, eqb, lit≤}
 use lib.Ieee.{Float, fin, binary64, add, div, le, fits}
 use lib.Ieee.Fits.{and-i, and-l, and-r, add-fits}
-use lib.Ieee.Scale.{finite}
 use Rattle.floats.specs.Values.{plusZero, two}
 use Rattle.floats.specs.Span.{span}
 use Rattle.floats.proofs.Order.{le-nums, le-transitive, le-total}

@@ -1,5 +1,4 @@
 -- Boxes that share a place meet. Over any number of axes. Assumes nothing.
-use mathlib.Core.Bool.{_&&_}
 use mathlib.Core.List.{List, [], _∷_}
 use lib.Dec.{T}
 use lib.Ieee.{Float, binary64, le}

@@ -1,12 +1,10 @@
 -- `floats::next_up` meets its contract. Assumes nothing.
-use mathlib.Core.Path.{_≡_, refl, sym, ap, _∙_, subst}
+use mathlib.Core.Path.{_≡_, sym, ap, _∙_, subst}
 use mathlib.Core.Bool.{true, false}
 use Prim.Native.Nat.{ℕ, _+_, _-_, _%_, _≤_}
-use native.Mathlib.Omega.{arith}
 use lib.Dec.{T}
-use lib.Ieee.{Float, inf, binary64, lt, fits, ofBits, toBits}
+use lib.Ieee.{Float, binary64, lt, fits, ofBits, toBits}
 use borrow.Author.Needs.{needs}
-use Rattle.floats.specs.Values.{plusZero}
 use Rattle.floats.specs.Next.{nextUp}
 use Rattle.floats.proofs.Next.{next-below, next-above, next-last, below-zero, below-some}
 use Rattle.floats.proofs.Patterns.{zero-bits, inf-bits, inf-no-nan}

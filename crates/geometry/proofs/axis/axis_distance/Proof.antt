@@ -1,5 +1,5 @@
 -- `geometry::axis::axis_distance` meets its contract. Assumes nothing.
-use mathlib.Core.Path.{_≡_, refl, _∙_}
+use mathlib.Core.Path.{_≡_, _∙_}
 use mathlib.Core.Bool.{true, false}
 use lib.Ieee.{Float, binary64, lt, sub}
 use Rattle.floats.specs.Values.{plusZero}

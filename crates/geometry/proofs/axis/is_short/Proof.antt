@@ -1,5 +1,5 @@
 -- `geometry::axis::is_short` meets its contract. Assumes nothing.
-use mathlib.Core.Path.{_≡_, refl, sym, _∙_, ap}
+use mathlib.Core.Path.{_≡_, refl}
 use mathlib.Core.Bool.{Bool, true, false, _&&_}
 use lib.Ieee.{Float, nan, inf, fin, binary64, add, lt, ofBits}
 use lib.Ieee.Scale.{finite}
