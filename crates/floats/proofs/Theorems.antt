@@ -16,46 +16,47 @@ use Rattle.floats.proofs.Distance as distance
 use Rattle.floats.proofs.Span as spans
 
 -- a value that an f64 can have, and one that is no NaN
-abbrev pub Held : Float → Type 0
-Held x = T (fits binary64 x)
+abbrev pub F64 : Float → Type 0
+F64 x = T (fits binary64 x)
 
-abbrev pub Real : Float → Type 0
-Real x = T (not (isNan x))
+abbrev pub NoNan : Float → Type 0
+NoNan x = T (not (isNan x))
 
 -- ---- the order is total and transitive away from NaN, and at a NaN it says no
-module _ (x y : Float) (p : Held x) (q : Held y) where
-  pub order-total : Real x → Real y → T (le x y) ⊎ T (le y x)
+module _ (x y : Float) (p : F64 x) (q : F64 y) where
+  pub order-total : NoNan x → NoNan y → T (le x y) ⊎ T (le y x)
   order-total u v = le-total binary64 x y p q (num-of x u) (num-of y v)
 
-  pub order-strict : Real x → Real y → lt x y ≡ not (le y x)
+  pub order-strict : NoNan x → NoNan y → lt x y ≡ not (le y x)
   order-strict u v = lt-is binary64 x y p q (num-of x u) (num-of y v)
 
-  pub order-transitive : (z : Float) → Held z → T (le x y) → T (le y z) → T (le x z)
+  pub order-transitive : (z : Float) → F64 z → T (le x y) → T (le y z) → T (le x z)
   order-transitive z r h k = le-transitive binary64 x y z p q r h k
 
 pub order-nan : (x : Float) → (le nan x ≡ false) × (le x nan ≡ false)
 order-nan x = (nan-le x, le-nan x)
 
 -- ---- the next value up is the least that is larger
-pub next-least : (x : Float) → Held x → T (lt x (inf false)) → T (lt x (nextUp binary64 x)) × ((y : Float) → Held y → T (lt x y) → T (le (nextUp binary64 x) y))
+pub next-least : (x : Float) → F64 x → T (lt x (inf false)) → F64 (nextUp binary64 x) × T (lt x (nextUp binary64 x)) × ((y : Float) → F64 y → T (lt x y) → T (le (nextUp binary64 x) y))
 next-least x p h =
     let n = next-up binary64 x p h in (
+      n .fits-y,
       key→lt binary64 x (nextUp binary64 x) p (n .fits-y) (lt-nums x (inf false) h .0) (n .num-y) (n .larger),
       λ y q l. key→le binary64 (nextUp binary64 x) y (n .fits-y) q (n .num-y) (lt-nums x y l .1) (n .least y q (lt-nums x y l .1) (lt→key binary64 x y p q l)),
     )
 
 -- ---- "For finite lo < hi with finite length one step is enough"
-pub one-step-is-enough : (lo hi : Float) → Held lo → Held hi → T (finite lo) → T (finite hi) → T (lt lo hi) → T (finite (sub binary64 hi lo))
+pub one-step-is-enough : (lo hi : Float) → F64 lo → F64 hi → T (finite lo) → T (finite hi) → T (lt lo hi) → T (finite (sub binary64 hi lo))
     → (span binary64 lo hi ≡ lengthened binary64 1 lo hi (sub binary64 hi lo)) × T (le hi (add binary64 lo (span binary64 lo hi)))
 one-step-is-enough lo hi p q u v h w =
     spans.one-step-is-enough binary64 lo hi (record { fits-lo = p; fits-hi = q; finite-lo = u; finite-hi = v; in-order = lt→le lo hi h; finite-length = w })
 
--- ---- "rounded distances keep order": what lies between v and b is no further from v than b is, over all signs and infinities
-pub order-kept : (v a b : Float) → Held v → Held a → Held b → Real (sub binary64 a v) → Real (sub binary64 b v) → Between v a b
+-- ---- "rounded distances keep order": what lies between v and b is no further from v than b is, over all signs and infinities, where neither difference is a NaN
+pub order-kept : (v a b : Float) → F64 v → F64 a → F64 b → NoNan (sub binary64 a v) → NoNan (sub binary64 b v) → Between v a b
     → T (le (mul binary64 (sub binary64 a v) (sub binary64 a v)) (mul binary64 (sub binary64 b v) (sub binary64 b v)))
 order-kept v a b p q r u w h = distance.order-kept binary64 v a b p q r (num-of (sub binary64 a v) u) (num-of (sub binary64 b v) w) h
 
-pub sums-kept : (a a' b b' : Float) → Held a → Held a' → Held b → Held b' → T (le plusZero a) → T (le plusZero b) → T (le a a') → T (le b b')
+pub sums-kept : (a a' b b' : Float) → F64 a → F64 a' → F64 b → F64 b' → T (le plusZero a) → T (le plusZero b) → T (le a a') → T (le b b')
     → T (le (add binary64 a b) (add binary64 a' b'))
 sums-kept a a' b b' p p' q q' u v h k = nonneg-add-mono binary64 a a' b b' p p' q q' (le→nonneg binary64 a p u) (le→nonneg binary64 b q v) h k
 

@@ -6,7 +6,7 @@ use Prim.Native.Nat.{ℕ, _+_, _*_, _/_, _%_}
 use native.Mathlib.Omega.{arith}
 use lib.Dec.{eqb}
 use lib.Ieee.{Float, eq}
-use Rattle.model.specs.Boxes.{Side, onEach, holds, inside, touches, meets, samePlace, turn, route, half, part, added, square, axisDistance, gap, nodeDistance}
+use Rattle.model.specs.Boxes.{Side, onEach, holds, inside, touches, meets, samePlace, turn, route, half, part, added, square, axisDistance, axisSq, nodeDistance}
 use Rattle.geometry.specs.Sides.{side}
 
 -- ---- a test on each axis
@@ -77,8 +77,8 @@ Distances (s ∷ b) [] d = ⊥
 Distances (s ∷ b) (v ∷ c) [] = ⊥
 Distances (s ∷ b) (v ∷ c) (x ∷ d) = (x ≡ axisDistance s v) × Distances b c d
 
-gaps-are : (b : List Side) (c d : List Float) → Distances b c d → map square d ≡ zipWith gap b c
-unfolding zipWith gap
+gaps-are : (b : List Side) (c d : List Float) → Distances b c d → map square d ≡ zipWith axisSq b c
+unfolding zipWith axisSq
 gaps-are [] c [] h = refl
 gaps-are [] c (x ∷ d) h = absurd h
 gaps-are (s ∷ b) [] d h = absurd h

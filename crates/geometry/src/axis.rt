@@ -1,10 +1,9 @@
 // One axis of a box: a corner and an extent. The boxes of `plane` and `space` are two and three of these.
 ghost use mathlib.Core.Path.{_≡_};
-ghost use mathlib.Core.Bool.{_&&_};
 ghost use Prim.Native.Nat.{_≤_};
 ghost use lib.Ieee.{binary64};
 ghost use Rattle.floats.specs.Span.{span, short};
-ghost use Rattle.model.specs.Boxes.{far, holds, touches, mid, turn, half, axisDistance};
+ghost use Rattle.model.specs.Boxes.{holds, touches, mid, turn, half, axisDistance};
 ghost use Rattle.geometry.specs.Sides.{side};
 
 const INFINITY: u64 = 0x7ff0_0000_0000_0000;
@@ -16,7 +15,7 @@ fn is_short(lo: f64, hi: f64, len: f64) -> bool
     (len > 0.0) & ((len < f64::from_bits(INFINITY)) & (lo + len < hi))
 }
 
-// The extent from lo to hi. The difference can round down, and then lo + (hi − lo) falls short of hi; the next number up reaches it.
+// The extent from lo to hi. The difference can round down, and then lo + (hi − lo) can fall short of hi; the next number up reaches it.
 pub fn span(lo: f64, hi: f64) -> f64
     ensures { λ r. ⌜ r ≡ span binary64 lo hi ⌝ }
 {
@@ -39,7 +38,7 @@ pub fn holds(corner: f64, extent: f64, v: f64) -> bool
     (corner <= v) & (v <= corner + extent)
 }
 
-// Whether two sides share a place.
+// Whether each side begins at or before the far edge of the other.
 pub fn touches(lo: f64, len: f64, lo2: f64, len2: f64) -> bool
     ensures { λ r. ⌜ r ≡ touches (side lo len) (side lo2 len2) ⌝ }
 {
@@ -82,7 +81,7 @@ pub fn half_extent(high: bool, corner: f64, extent: f64) -> f64
     }
 }
 
-// The distance from v to the nearest place of the side.
+// How far v lies below the corner or above the far edge, and 0 between them.
 pub fn axis_distance(v: f64, lo: f64, len: f64) -> f64
     ensures { λ r. ⌜ r ≡ axisDistance (side lo len) v ⌝ }
 {

@@ -72,7 +72,7 @@ impl Rectangle {
         }
     }
 
-    // The squared distance from a point to the nearest place of the rectangle.
+    // The axis distances, squared and added: no more than the squared distance of any finite point inside.
     pub fn min_distance_sq(self, point: Point2D) -> f64
         ensures { λ r. ⌜ r ≡ nodeDistance (sides2 self) (place2 point) ⌝ }
     {

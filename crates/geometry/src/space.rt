@@ -82,7 +82,7 @@ impl Cube {
         }
     }
 
-    // The squared distance from a point to the nearest place of the cube.
+    // The axis distances, squared and added: no more than the squared distance of any finite point inside.
     pub fn min_distance_sq(self, point: Point3D) -> f64
         ensures { λ r. ⌜ r ≡ nodeDistance (sides3 self) (place3 point) ⌝ }
     {

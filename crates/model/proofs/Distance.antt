@@ -12,9 +12,9 @@ use Rattle.floats.specs.Values.{plusZero}
 use Rattle.floats.proofs.Order.{num?, mag, zero-mag, zero-fits, lt→le, le-reflexive}
 use Rattle.floats.proofs.Monotone.{Nonneg, sub-num-l, sub-num-r, square-mono, square-nonneg, nonneg-add, nonneg-add-mono}
 use Rattle.floats.proofs.Distance.{sub-swap, size-kept}
-use Rattle.model.specs.Boxes.{Side, far, holds, inside, addedTo, added, square, apart, squared, axisDistance, gap, nodeDistance}
+use Rattle.model.specs.Boxes.{Side, far, holds, inside, addedTo, added, square, differenceSq, squared, axisDistance, axisSq, nodeDistance}
 use Rattle.model.proofs.Lists.{All}
-use Rattle.model.proofs.Inside.{Held, HeldSide, far-held}
+use Rattle.model.proofs.Inside.{F64, F64Side, far-held}
 
 -- ---- an edge between a number and a finite one is finite
 finite-low : (v y x : Float) → T (lt v y) → T (le y x) → T (finite x) → T (finite y)
@@ -47,15 +47,15 @@ finite-high (fin s m e) (fin t n d) v h k u = tt
 
 -- ---- one axis: the place x lies on the side s, and v is the centre's coordinate
 pub record Axis (s : Side) (x v : Float) : Type 0 where
-  pub held-side : HeldSide s
-  pub held-x : Held x
-  pub held-v : Held v
+  pub held-side : F64Side s
+  pub held-x : F64 x
+  pub held-v : F64 v
   pub finite-x : T (finite x)
   pub num-v : T (num? v)
   pub above : T (le (s .corner) x)
   pub under : T (le x (far s))
 
-pub axis-held : (s : Side) (v : Float) → Held (axisDistance s v)
+pub axis-held : (s : Side) (v : Float) → F64 (axisDistance s v)
 unfolding axisDistance
 axis-held s v =
     cond-fits binary64 (lt v (s .corner)) (sub binary64 (s .corner) v) (cond (lt (far s) v) (sub binary64 v (far s)) plusZero) (sub-fits binary64 (s .corner) v)
@@ -63,14 +63,14 @@ axis-held s v =
 
 -- 0 ≤ a ≤ b, both values of an f64
 abbrev pub Under : Float → Float → Type 0
-Under a b = Held a × Held b × Nonneg binary64 a × T (le a b)
+Under a b = F64 a × F64 b × Nonneg binary64 a × T (le a b)
 
 module _ (s : Side) (x v : Float) (a : Axis s x v) where
   num-gap : T (num? (sub binary64 x v))
   num-gap = sub-num-l binary64 x v (a .held-x) (a .held-v) (a .finite-x) (a .num-v)
 
   -- a number that is no larger than x − v in size
-  smaller : (d : Float) → Held d → T (num? d) → mag binary64 d ≤ mag binary64 (sub binary64 x v) → Under (square d) (square (sub binary64 x v))
+  smaller : (d : Float) → F64 d → T (num? d) → mag binary64 d ≤ mag binary64 (sub binary64 x v) → Under (square d) (square (sub binary64 x v))
   smaller d p u h = (
     mul-fits binary64 d d,
     mul-fits binary64 (sub binary64 x v) (sub binary64 x v),
@@ -91,8 +91,8 @@ module _ (s : Side) (x v : Float) (a : Axis s x v) where
       smaller (sub binary64 v (far s)) (sub-fits binary64 v (far s)) u
       (le-trans (le-of-eq (w .1)) (size-kept binary64 v (far s) x (a .held-v) (far-held s) (a .held-x) (w .0) num-gap (inr (a .under, lt→le (far s) v h))))
 
-  pub axis-under : Under (gap s v) (apart x v)
-  unfolding gap apart
+  pub axis-under : Under (axisSq s v) (differenceSq x v)
+  unfolding axisSq differenceSq
   axis-under = go (lt v (s .corner)) (lt (far s) v) below-corner above-far
     where
       go : (t u : Bool) → (T t → Under (square (sub binary64 (s .corner) v)) (square (sub binary64 x v))) → (T u → Under (square (sub binary64 v (far s))) (square (sub binary64 x v)))
@@ -131,12 +131,12 @@ added-under (x ∷ xs) (y ∷ ys) h = added-on x y xs ys (h .0) (h .1)
 
 -- ---- all axes
 abbrev pub Finite : Float → Type 0
-Finite x = Held x × T (finite x)
+Finite x = F64 x × T (finite x)
 
 abbrev pub Number : Float → Type 0
-Number v = Held v × T (num? v)
+Number v = F64 v × T (num? v)
 
-all-under : (b : List Side) (p c : List Float) → All HeldSide b → All Finite p → All Number c → T (inside b p) → Unders (zipWith gap b c) (zipWith apart p c)
+all-under : (b : List Side) (p c : List Float) → All F64Side b → All Finite p → All Number c → T (inside b p) → Unders (zipWith axisSq b c) (zipWith differenceSq p c)
 unfolding zipWith inside holds
 all-under [] [] c g q r h = tt
 all-under [] (x ∷ p) c g q r h = absurd h
@@ -156,6 +156,6 @@ all-under (s ∷ b) (x ∷ p) (v ∷ c) g q r h =
     (axis-under s x v a, all-under b p c (g .1) (q .1) (r .1) (and-r (holds s x) (inside b p) h))
 
 -- 0 ≤ the node distance ≤ the distance of the place
-pub node-under : (b : List Side) (p c : List Float) → All HeldSide b → All Finite p → All Number c → T (inside b p) → Under (nodeDistance b c) (squared p c)
+pub node-under : (b : List Side) (p c : List Float) → All F64Side b → All Finite p → All Number c → T (inside b p) → Under (nodeDistance b c) (squared p c)
 unfolding nodeDistance squared
-node-under b p c g q r h = added-under (zipWith gap b c) (zipWith apart p c) (all-under b p c g q r h)
+node-under b p c g q r h = added-under (zipWith axisSq b c) (zipWith differenceSq p c) (all-under b p c g q r h)

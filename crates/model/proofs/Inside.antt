@@ -19,24 +19,24 @@ use Rattle.model.specs.Boxes.{Side, far, holds, inside, mid, turn, route
 use Rattle.model.proofs.Lists.{All}
 
 -- a value that an f64 can have
-abbrev pub Held : Float → Type 0
-Held x = T (fits binary64 x)
+abbrev pub F64 : Float → Type 0
+F64 x = T (fits binary64 x)
 
-abbrev pub HeldSide : Side → Type 0
-HeldSide s = Held (s .corner) × Held (s .extent)
+abbrev pub F64Side : Side → Type 0
+F64Side s = F64 (s .corner) × F64 (s .extent)
 
-pub far-held : (s : Side) → Held (far s)
+pub far-held : (s : Side) → F64 (far s)
 unfolding far
 far-held s = add-fits binary64 (s .corner) (s .extent)
 
-pub mid-held : (s : Side) → Held (mid s)
+pub mid-held : (s : Side) → F64 (mid s)
 unfolding mid
 mid-held s = add-fits binary64 (s .corner) (div binary64 (s .extent) two)
 
--- ---- one side. A far edge can creep past its parent's by rounding, so the bound on the ends grows on the way down
+-- ---- one side. A far edge can creep past its parent's by rounding, so the bound on the ends grows on the way descend
 pub record Bounded (j : ℕ) (s : Side) : Type 0 where
-  pub fits-corner : Held (s .corner)
-  pub fits-extent : Held (s .extent)
+  pub fits-corner : F64 (s .corner)
+  pub fits-extent : F64 (s .extent)
   pub nonneg : Nonneg binary64 (s .extent)
   pub near : Within j (s .corner)
   pub end : Within j (far s)
@@ -61,7 +61,7 @@ module _ (j : ℕ) (s : Side) (r : 3 + j ≤ 1023) (g : Bounded j s) where
   high-reach : Reach binary64 j (mid s) (far s) (span binary64 (mid s) (far s))
   high-reach = span-reach binary64 j (mid s) (far s) (mid-held s) (far-held s) r mid-within (g .end) (mids .1)
 
-  wider : (x : Float) → Held x → Within j x → Within (3 + j) x
+  wider : (x : Float) → F64 x → Within j x → Within (3 + j) x
   wider x p w = within-up binary64 j (3 + j) x p (omega arith) r w
 
   half-bounded : (t : Bool) → Bounded (3 + j) (half t s)
@@ -69,7 +69,7 @@ module _ (j : ℕ) (s : Side) (r : 3 + j ≤ 1023) (g : Bounded j s) where
   half-bounded false = record { fits-corner = g .fits-corner; fits-extent = low-reach .fits-len; nonneg = low-reach .nonneg; near = wider (s .corner) (g .fits-corner) (g .near); end = low-reach .within }
   half-bounded true = record { fits-corner = mid-held s; fits-extent = high-reach .fits-len; nonneg = high-reach .nonneg; near = wider (mid s) (mid-held s) mid-within; end = high-reach .within }
 
-  half-between : (v : Float) (t : Bool) → Held v → le (mid s) v ≡ t → T (le (s .corner) v) → T (le v (far s)) → T (le (half t s .corner) v) × T (le v (far (half t s)))
+  half-between : (v : Float) (t : Bool) → F64 v → le (mid s) v ≡ t → T (le (s .corner) v) → T (le v (far s)) → T (le (half t s .corner) v) × T (le v (far (half t s)))
   unfolding half far
   half-between v false q e a b = (a, le-transitive binary64 v (mid s) (add binary64 (s .corner) (span binary64 (s .corner) (mid s))) q (mid-held s) (add-fits binary64 (s .corner) (span binary64 (s .corner) (mid s))) below (low-reach .covers))
     where
@@ -77,7 +77,7 @@ module _ (j : ℕ) (s : Side) (r : 3 + j ≤ 1023) (g : Bounded j s) where
       below = elim (le-total binary64 (mid s) v (mid-held s) q (le-nums (s .corner) (mid s) (mids .0) .1) (le-nums (s .corner) v a .1)) [ inl k ↦ absurd (subst T e k) | inr k ↦ k ]
   half-between v true q e a b = (subst T (sym e) tt, le-transitive binary64 v (far s) (add binary64 (mid s) (span binary64 (mid s) (far s))) q (far-held s) (add-fits binary64 (mid s) (span binary64 (mid s) (far s))) b (high-reach .covers))
 
-  half-holds : (v : Float) → Held v → T (holds s v) → T (holds (half (le (mid s) v) s) v)
+  half-holds : (v : Float) → F64 v → T (holds s v) → T (holds (half (le (mid s) v) s) v)
   unfolding holds
   half-holds v q h =
       let t = le (mid s) v in
@@ -105,7 +105,7 @@ unfolding part
 part-bounded j [] i r g = tt
 part-bounded j (s ∷ b) i r g = (half-bounded j s r (g .0) (eqb (i % 2) 1), part-bounded j b (i / 2) r (g .1))
 
-pub part-inside : (j : ℕ) (b : List Side) (vs : List Float) → 3 + j ≤ 1023 → All (Bounded j) b → All Held vs → T (inside b vs) → T (inside (part b (route b vs)) vs)
+pub part-inside : (j : ℕ) (b : List Side) (vs : List Float) → 3 + j ≤ 1023 → All (Bounded j) b → All F64 vs → T (inside b vs) → T (inside (part b (route b vs)) vs)
 unfolding part route inside turn
 part-inside j [] [] r g q h = tt
 part-inside j [] (v ∷ vs) r g q h = absurd h
@@ -122,7 +122,7 @@ bounded-within : (x : Float) → T (bounded x) → Within 500 x
 unfolding bounded
 bounded-within x t = (and-l (le (fin true 1 (pos 500)) x) (le x (fin false 1 (pos 500))) t, and-r (le (fin true 1 (pos 500)) x) (le x (fin false 1 (pos 500))) t)
 
-side-bounded : (s : Side) → HeldSide s → T (bounded (s .corner)) → T (bounded (s .extent)) → T (le plusZero (s .extent)) → Bounded 501 s
+side-bounded : (s : Side) → F64Side s → T (bounded (s .corner)) → T (bounded (s .extent)) → T (le plusZero (s .extent)) → Bounded 501 s
 unfolding far
 side-bounded s q c e n = record {
   fits-corner = q .0;
@@ -132,7 +132,7 @@ side-bounded s q c e n = record {
   end = add-within binary64 500 (s .corner) (s .extent) (q .0) (q .1) (lit≤ tt) (bounded-within (s .corner) c) (bounded-within (s .extent) e);
 }
 
-pub acceptable-bounded : (b : List Side) → All HeldSide b → T (acceptable b) → All (Bounded 501) b
+pub acceptable-bounded : (b : List Side) → All F64Side b → T (acceptable b) → All (Bounded 501) b
 unfolding acceptable
 acceptable-bounded [] q h = tt
 acceptable-bounded (s ∷ b) q h =
@@ -143,13 +143,13 @@ acceptable-bounded (s ∷ b) q h =
     )
 
 -- ---- the path of a place: its box after d splits
-unfoldable pub down : ℕ → List Side → List Float → List Side
-down zero b vs = b
-down (suc d) b vs = down d (part b (route b vs)) vs
+unfoldable pub descend : ℕ → List Side → List Float → List Side
+descend zero b vs = b
+descend (suc d) b vs = descend d (part b (route b vs)) vs
 
-pub down-inside : (d j : ℕ) (b : List Side) (vs : List Float) → 3 * d + j ≤ 1023 → All (Bounded j) b → All Held vs → T (inside b vs) → T (inside (down d b vs) vs)
-unfolding down
-down-inside zero j b vs r g q h = h
-down-inside (suc d) j b vs r g q h =
+pub descend-inside : (d j : ℕ) (b : List Side) (vs : List Float) → 3 * d + j ≤ 1023 → All (Bounded j) b → All F64 vs → T (inside b vs) → T (inside (descend d b vs) vs)
+unfolding descend
+descend-inside zero j b vs r g q h = h
+descend-inside (suc d) j b vs r g q h =
     let m : 3 + j ≤ 1023 = omega arith in
-    down-inside d (3 + j) (part b (route b vs)) vs (omega arith) (part-bounded j b (route b vs) m g) q (part-inside j b vs m g q h)
+    descend-inside d (3 + j) (part b (route b vs)) vs (omega arith) (part-bounded j b (route b vs) m g) q (part-inside j b vs m g q h)

@@ -6,17 +6,17 @@ use lib.Ieee.Fits.{and-i, and-l, and-r}
 use Rattle.floats.proofs.Order.{le-transitive}
 use Rattle.model.specs.Boxes.{Side, far, holds, inside, touches, meets}
 use Rattle.model.proofs.Lists.{All}
-use Rattle.model.proofs.Inside.{Held, HeldSide, far-held}
+use Rattle.model.proofs.Inside.{F64, F64Side, far-held}
 
 -- one axis
-shared-touch : (s t : Side) (v : Float) → HeldSide s → HeldSide t → Held v → T (holds s v) → T (holds t v) → T (touches s t)
+shared-touch : (s t : Side) (v : Float) → F64Side s → F64Side t → F64 v → T (holds s v) → T (holds t v) → T (touches s t)
 unfolding holds touches
 shared-touch s t v p q u h k =
     and-i (le (s .corner) (far t)) (le (t .corner) (far s))
     (le-transitive binary64 (s .corner) v (far t) (p .0) u (far-held t) (and-l (le (s .corner) v) (le v (far s)) h) (and-r (le (t .corner) v) (le v (far t)) k))
     (le-transitive binary64 (t .corner) v (far s) (q .0) u (far-held s) (and-l (le (t .corner) v) (le v (far t)) k) (and-r (le (s .corner) v) (le v (far s)) h))
 
-pub shared-meet : (b q : List Side) (p : List Float) → All HeldSide b → All HeldSide q → All Held p → T (inside b p) → T (inside q p) → T (meets b q)
+pub shared-meet : (b q : List Side) (p : List Float) → All F64Side b → All F64Side q → All F64 p → T (inside b p) → T (inside q p) → T (meets b q)
 unfolding inside meets
 shared-meet [] [] p g r u h k = tt
 shared-meet [] (t ∷ q) [] g r u h k = absurd k

@@ -1,5 +1,6 @@
 -- Boxes, routing and distances over any number of axes: document 01, "Boxes and routing" and "Searching". Definitions only.
--- A place is a list of coordinates, x first. Nothing says how many there are: two are the quadtree's, three the octree's.
+-- A place is a list of coordinates, x first. Nothing says how many there are: two are the quadtree's, three the octree's. Every list of one tree has as
+-- many; what is said of lists of other lengths is never used.
 use Prim.Native.Nat.{ℕ, _+_, _*_, _/_, _%_}
 use mathlib.Core.Bool.{Bool, true, false, _&&_, cond}
 use mathlib.Core.List.{List, [], _∷_, zipWith}
@@ -43,7 +44,7 @@ unfoldable pub meets : List Side → List Side → Bool
 unfolding onEach touches
 meets b q = onEach touches b q
 
--- "Equality (added): all coordinates equal as floats (−0 equals 0)"
+-- "Equality (added): all coordinates equal as floats (−0 equals 0) and payloads equal.": the coordinates
 unfoldable pub samePlace : List Float → List Float → Bool
 unfolding onEach
 samePlace p q = onEach eq p q
@@ -91,12 +92,12 @@ abbrev pub square : Float → Float
 square x = mul binary64 x x
 
 -- "Squared distance: each difference and product rounded once, added x, y, then z."
-unfoldable pub apart : Float → Float → Float
-apart x v = square (sub binary64 x v)
+unfoldable pub differenceSq : Float → Float → Float
+differenceSq x v = square (sub binary64 x v)
 
 unfoldable pub squared : List Float → List Float → Float
-unfolding added zipWith apart
-squared p c = added (zipWith apart p c)
+unfolding added zipWith differenceSq
+squared p c = added (zipWith differenceSq p c)
 
 -- "Axis distance (added): corner − v below the corner, v − far edge above it, otherwise 0."
 unfoldable pub axisDistance : Side → Float → Float
@@ -104,13 +105,13 @@ unfolding far
 axisDistance s v = cond (lt v (s .corner)) (sub binary64 (s .corner) v) (cond (lt (far s) v) (sub binary64 v (far s)) plusZero)
 
 -- "Node distance is the sum of squares in the same order."
-unfoldable pub gap : Side → Float → Float
+unfoldable pub axisSq : Side → Float → Float
 unfolding axisDistance
-gap s v = square (axisDistance s v)
+axisSq s v = square (axisDistance s v)
 
 unfoldable pub nodeDistance : List Side → List Float → Float
-unfolding added zipWith gap
-nodeDistance b c = added (zipWith gap b c)
+unfolding added zipWith axisSq
+nodeDistance b c = added (zipWith axisSq b c)
 
 -- "every number finite and at most 2^500 in magnitude"
 unfoldable pub bounded : Float → Bool
