@@ -13,7 +13,7 @@ use Rattle.floats.proofs.Order.{num?, mag, zero-mag, zero-fits, lt→le, le-ref
 use Rattle.floats.proofs.Monotone.{Nonneg, sub-num-l, sub-num-r, square-mono, square-nonneg, nonneg-add, nonneg-add-mono}
 use Rattle.floats.proofs.Distance.{sub-swap, size-kept}
 use Rattle.model.specs.Boxes.{Side, far, holds, inside, addedTo, added, square, differenceSq, squared, axisDistance, axisSq, nodeDistance}
-use Rattle.model.proofs.Lists.{All}
+use Rattle.model.specs.Soundness.{All}
 use Rattle.model.proofs.Inside.{F64, F64Side, far-held}
 
 -- ---- an edge between a number and a finite one is finite

@@ -16,7 +16,7 @@ use Rattle.floats.proofs.Monotone.{Nonneg, le→nonneg}
 use Rattle.floats.proofs.Half.{midplane}
 use Rattle.floats.proofs.Bounds.{Within, within-finite, within-up, pow-fits, add-within, Reach, span-reach}
 use Rattle.model.specs.Boxes.{Side, far, holds, inside, mid, turn, route, half, part, bounded, acceptable}
-use Rattle.model.proofs.Lists.{All}
+use Rattle.model.specs.Soundness.{All}
 
 -- a value that an f64 can have
 abbrev pub F64 : Float → Type 0

@@ -2,4 +2,15 @@ pub mod Lists
 pub mod Inside
 pub mod Distance
 pub mod Meet
+pub mod Short
+pub mod Counts
+pub mod Skip
+pub mod Nearest
+pub mod First
+pub mod Equal
+pub mod Room
+pub mod Same
+pub mod Sound
+pub mod Calls
+pub mod After
 pub mod Theorems

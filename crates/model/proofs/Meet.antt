@@ -5,7 +5,7 @@ use lib.Ieee.{Float, binary64, le}
 use lib.Ieee.Fits.{and-i, and-l, and-r}
 use Rattle.floats.proofs.Order.{le-transitive}
 use Rattle.model.specs.Boxes.{Side, far, holds, inside, touches, meets}
-use Rattle.model.proofs.Lists.{All}
+use Rattle.model.specs.Soundness.{All}
 use Rattle.model.proofs.Inside.{F64, F64Side, far-held}
 
 -- one axis

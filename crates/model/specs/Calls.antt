@@ -1,13 +1,13 @@
 -- Calls and what they give: document 01, "Room" and "Reply numbers". Definitions only.
 use Prim.Native.Nat.{ℕ, suc, _^_, min}
-use mathlib.Core.Bool.{Bool, true, false, cond}
+use mathlib.Core.Bool.{true, false, cond}
 use mathlib.Core.List.{List, [], _∷_}
-use mathlib.Core.Option.{Option, none, some}
+use mathlib.Core.Option.{none, some}
 use lib.ListN.{length}
 use lib.Dec.{leb, ltb, eqb}
 use lib.Ieee.{Float}
 use Rattle.model.specs.Boxes.{Side, inside, acceptable}
-use Rattle.model.specs.Trees.{Point, Tree, bag, held, count, nodes, insert, delete, contains}
+use Rattle.model.specs.Trees.{Point, Tree, bag, count, nodes, insert, delete, contains}
 use Rattle.model.specs.Searches.{radius, box, nearest}
 
 -- ---- replies

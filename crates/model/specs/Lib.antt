@@ -4,3 +4,4 @@ pub mod Trees
 pub mod Searches
 pub mod Calls
 pub mod Soundness
+pub mod History

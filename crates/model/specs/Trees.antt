@@ -90,7 +90,7 @@ unfoldable pub without : Point → List Point → Option (List Point)
 unfolding same
 without p [] = none
 without p (q ∷ qs) =
-    elim (same q p) [
+    elim (same p q) [
       | true ↦ some qs
       | false ↦ elim (without p qs) [ none ↦ none | some rs ↦ some (q ∷ rs) ]
     ]
