@@ -11,7 +11,7 @@ use lib.Ieee.{Float, binary64, eq}
 use lib.Ieee.Fits.{and-l, and-r}
 use Rattle.floats.proofs.Order.{eq-symmetric, eq-transitive}
 use Rattle.model.specs.Boxes.{Side, acceptable, inside, onEach, samePlace}
-use Rattle.model.specs.Calls.{Box, Bulk, Call, Clear, Contains, Create, Delete, Insert, IsEmpty, Kind, Len, Nearest, Outcome, Plan, Radius, State, badBoundary, broken, bulkCall, call, create, done, empty, full, give, misfit, noCapacity, noNodes, noRoom, number, refuse, searchCall, step, tree, with-root}
+use Rattle.model.specs.Calls.{Box, Bulk, Call, Clear, Contains, Create, Delete, Insert, IsEmpty, Kind, Len, Nearest, Outcome, Plan, Radius, State, badBoundary, broken, bulkCall, call, create, done, empty, full, give, misfit, noCapacity, noNodes, noRoom, number, onBroken, refuse, searchCall, step, tree, with-root}
 use Rattle.model.specs.History.{Ledger, blank, bulkStores, done?, entered, ledger, run}
 use Rattle.model.specs.Searches.{box, nearest, radius}
 use Rattle.model.specs.Soundness.{All}
@@ -164,7 +164,7 @@ search-fine k a m ps l w =
 
 -- every call keeps a sound tree and its balance
 pub fine-step : (k : Kind) (s : State) (c : Call) (l : Ledger) → Regular k → Proper k c → Fine k s l → Fine k (step k s c .state) (entered k s c l)
-unfolding step call entered done? number
+unfolding step onBroken call entered done? number
 fine-step k misfit c l r n w = tt
 fine-step k broken (Create b cap) l r n w = create-fine k broken b cap l r n tt
 fine-step k broken (Insert p) l r n w = tt

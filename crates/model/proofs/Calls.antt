@@ -10,7 +10,7 @@ use mathlib.Core.Option.{Option, none, some}
 use lib.ListN.{length}
 use lib.Dec.{T, leb, ltb, eqb, leb→le, ltb→lt, lit≤}
 use Rattle.model.specs.Boxes.{Side, acceptable, inside}
-use Rattle.model.specs.Calls.{Box, Bulk, Call, Clear, Contains, Create, Delete, Insert, IsEmpty, Kind, Len, Nearest, Outcome, Plan, Radius, State, absent, badBoundary, broken, call, create, deleteCall, done, empty, full, give, insertCall, misfit, noCapacity, noNodes, noRoom, octree, outside, quadtree, refuse, searchCall, step, tree, ways, with-root}
+use Rattle.model.specs.Calls.{Box, Bulk, Call, Clear, Contains, Create, Delete, Insert, IsEmpty, Kind, Len, Nearest, Outcome, Plan, Radius, State, absent, badBoundary, broken, call, create, deleteCall, done, empty, full, give, insertCall, misfit, noCapacity, noNodes, noRoom, octree, onBroken, outside, quadtree, refuse, searchCall, step, tree, ways, with-root}
 use Rattle.model.specs.Searches.{box, nearest, radius}
 use Rattle.model.specs.Soundness.{All, Sound}
 use Rattle.model.specs.Trees.{Point, Tree, bag, count, delete, held, insert, nodes}
@@ -91,7 +91,7 @@ call-settled k a (Box q m) n = search-settled a m (box q 32 (a .root))
 call-settled k a (Nearest c j m) n = search-settled a m (nearest (min j 512) c 32 (a .boundary) (a .root))
 
 pub done-or-refused : (k : Kind) (s : State) (c : Call) → NotBulk c → Settled s (step k s c)
-unfolding step
+unfolding step onBroken
 done-or-refused k (tree a) c n = call-settled k a c n
 done-or-refused k misfit c n = inr refl
 done-or-refused k broken (Create b cap) n = create-settled broken b cap

@@ -153,19 +153,24 @@ call k a (Radius c r n) = searchCall a n (radius c r 32 (a .root))
 call k a (Box q n) = searchCall a n (box q 32 (a .root))
 call k a (Nearest c m n) = searchCall a n (nearest (min m 512) c 32 (a .boundary) (a .root))
 
--- "8: the lent tree is not sound"; creation takes pieces of the right length whatever they hold
+-- on pieces of the right length that hold no sound tree: "8 | the lent tree is not sound"; a creation does not ask
+unfoldable pub onBroken : Call → Outcome
+unfolding create
+onBroken (Create b cap) = create broken b cap
+onBroken (Insert p) = refuse unsound broken
+onBroken (Bulk ps) = refuse unsound broken
+onBroken (Delete p) = refuse unsound broken
+onBroken (Contains p) = refuse unsound broken
+onBroken Len = refuse unsound broken
+onBroken IsEmpty = refuse unsound broken
+onBroken Clear = refuse unsound broken
+onBroken (Radius c r n) = refuse unsound broken
+onBroken (Box q n) = refuse unsound broken
+onBroken (Nearest c m n) = refuse unsound broken
+
+-- what a call gives: "creation 8 (only for pieces of wrong length)"
 unfoldable pub step : Kind → State → Call → Outcome
-unfolding call create
-step k (tree a) c = call k a c
+unfolding call onBroken
 step k misfit c = refuse unsound misfit
-step k broken (Create b cap) = create broken b cap
-step k broken (Insert p) = refuse unsound broken
-step k broken (Bulk ps) = refuse unsound broken
-step k broken (Delete p) = refuse unsound broken
-step k broken (Contains p) = refuse unsound broken
-step k broken Len = refuse unsound broken
-step k broken IsEmpty = refuse unsound broken
-step k broken Clear = refuse unsound broken
-step k broken (Radius c r n) = refuse unsound broken
-step k broken (Box q n) = refuse unsound broken
-step k broken (Nearest c m n) = refuse unsound broken
+step k broken c = onBroken c
+step k (tree a) c = call k a c
