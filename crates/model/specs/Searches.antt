@@ -73,13 +73,13 @@ abbrev pub Entry : Type 0
 Entry = At Point
 
 -- how the worst compares, "by IEEE 754"; an empty table is full only for k = 0, and then nothing is better than its worst
-unfoldable pub worst : (Float → Bool) → List Entry → Bool
+unfoldable pub worst : {A : Type 0} → (Float → Bool) → List (At A) → Bool
 worst f [] = true
 worst f (y ∷ []) = f (y .dist)
 worst f (y ∷ z ∷ zs) = worst f (z ∷ zs)
 
 -- "A full table turns away a distance ≥ the worst, else drops its last by (distance, arrival)."
-unfoldable pub offer : ℕ → Entry → List Entry → List Entry
+unfoldable pub offer : {A : Type 0} → ℕ → At A → List (At A) → List (At A)
 unfolding place worst
 offer k x t =
     elim (ltb (length t) k) [
@@ -87,7 +87,7 @@ offer k x t =
       | false ↦ elim (worst (λ w. le w (x .dist)) t) [ true ↦ t | false ↦ place x (dropLast t) ]
     ]
 
-unfoldable pub offerEach : ℕ → List Entry → List Entry → List Entry
+unfoldable pub offerEach : {A : Type 0} → ℕ → List (At A) → List (At A) → List (At A)
 unfolding offer
 offerEach k t [] = t
 offerEach k t (x ∷ xs) = offerEach k (offer k x t) xs

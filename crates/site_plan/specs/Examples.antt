@@ -111,9 +111,13 @@ quadrant i misfit = []
 quadrant i broken = []
 quadrant i (tree t) = child i (t .root)
 
--- 512 points held
+-- n points held
+unfoldable pub holding : ℕ → State
+holding n = tree (record { boundary = plan; capacity = 512; root = leaf (replicate n a) })
+
 unfoldable pub full : State
-full = tree (record { boundary = plan; capacity = 512; root = leaf (replicate 512 a) })
+unfolding holding
+full = holding 512
 
 -- ---- the table: what the definitions give
 unfoldable pub given : List (List ℕ)
