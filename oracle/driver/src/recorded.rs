@@ -1,0 +1,82 @@
+//! The recorded streams: which there are, and how they are made.
+
+use crate::generate::generate;
+use crate::program::answers;
+use crate::questions;
+use crate::room::Room;
+use crate::space::{Plane, Solid, Space};
+use std::path::{Path, PathBuf};
+
+/// Kind, seed and count of each recorded stream; both trees have one of each.
+pub const PLAN: [(&str, u64, usize); 13] = [
+    ("uniform", 31, 120),
+    ("clustered", 2, 120),
+    ("grid", 3, 120),
+    ("coincident", 4, 90),
+    ("midplanes", 14, 150),
+    ("full", 5, 526),
+    ("nodes", 6, 160),
+    ("merges", 7, 110),
+    ("special", 8, 190),
+    ("radii", 9, 75),
+    ("nearest", 10, 75),
+    ("spans", 11, 120),
+    ("damaged", 12, 150),
+];
+
+/// The seed of the questions about geometry.
+const QUESTIONS_SEED: u64 = 13;
+
+/// A recorded file: its name without ending, what is asked and what is answered.
+pub struct Recording {
+    pub name: String,
+    pub asked: Vec<u8>,
+    pub answered: Vec<u8>,
+}
+
+/// Makes all recordings anew.
+pub fn make() -> Result<Vec<Recording>, String> {
+    let mut all = of_space::<Plane>()?;
+    all.extend(of_space::<Solid>()?);
+    let asked = questions::questions(QUESTIONS_SEED);
+    let answered = questions::answers(&asked)?.into_bytes();
+    all.push(Recording { name: "geometry".into(), asked: asked.into_bytes(), answered });
+    Ok(all)
+}
+
+fn of_space<S: Space>() -> Result<Vec<Recording>, String> {
+    let make = |(kind, seed, count): (&str, u64, usize)| {
+        let asked = generate::<S>(kind, seed, count).ok_or(format!("no kind {kind}"))?;
+        let answered = answers::<Room<S>>(S::AXES, S::WORD, &asked);
+        Ok(Recording { name: format!("{}-{kind}", S::WORD), asked, answered })
+    };
+    PLAN.into_iter().map(make).collect()
+}
+
+/// Writes all recordings to a folder.
+pub fn write(folder: &Path) -> Result<(), String> {
+    for recording in make()? {
+        for (ending, bytes) in [("csv", &recording.asked), ("answers", &recording.answered)] {
+            let path = place(folder, &recording.name, ending);
+            std::fs::write(&path, bytes).map_err(|e| format!("{}: {e}", path.display()))?;
+        }
+    }
+    Ok(())
+}
+
+/// Where a recorded file stands. The questions about geometry are the input of the program that
+/// replays them, and their answers what it must write.
+fn place(folder: &Path, name: &str, ending: &str) -> PathBuf {
+    let replay = folder.join("../../crates/replay_geometry");
+    match (name, ending) {
+        ("geometry", "csv") => replay.join("stdin"),
+        ("geometry", _) => replay.join("stdout"),
+        _ => folder.join(format!("{name}.{ending}")),
+    }
+}
+
+/// Reads a recorded file.
+pub fn read(folder: &Path, name: &str, ending: &str) -> Result<Vec<u8>, String> {
+    let path = place(folder, name, ending);
+    std::fs::read(&path).map_err(|e| format!("{}: {e}", path.display()))
+}

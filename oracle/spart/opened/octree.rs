@@ -1,0 +1,2 @@
+
+open_tree!(Octree, Cube, Point3D);

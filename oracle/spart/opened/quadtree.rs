@@ -1,0 +1,2 @@
+
+open_tree!(Quadtree, Rectangle, Point2D);
