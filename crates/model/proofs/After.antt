@@ -11,7 +11,7 @@ use lib.Ieee.{Float, binary64, eq}
 use lib.Ieee.Fits.{and-l, and-r}
 use Rattle.floats.proofs.Order.{eq-symmetric, eq-transitive}
 use Rattle.model.specs.Boxes.{Side, acceptable, inside, onEach, samePlace}
-use Rattle.model.specs.Calls.{Box, Bulk, Call, Clear, Contains, Create, Delete, Insert, IsEmpty, Kind, Len, Nearest, Outcome, Plan, Radius, State, badBoundary, broken, bulkCall, call, create, done, empty, full, give, misfit, noCapacity, noNodes, noRoom, number, onBroken, refuse, searchCall, step, tree, with-root}
+use Rattle.model.specs.Calls.{Ask, Box, Bulk, Call, Clear, Contains, Create, Delete, Insert, IsEmpty, Kind, Len, Nearest, Outcome, Plan, Query, Radius, State, ask, badBoundary, broken, bulkCall, call, create, done, empty, full, give, misfit, noCapacity, noNodes, noRoom, number, onBroken, refuse, searchCall, step, tree, with-root}
 use Rattle.model.specs.History.{Ledger, blank, bulkStores, done?, entered, ledger, run}
 use Rattle.model.specs.Searches.{box, nearest, radius}
 use Rattle.model.specs.Soundness.{All}
@@ -157,10 +157,20 @@ bulk-fine k a n (p ∷ ps) l f m w =
     both true false z g e = same-state
     both false y z g e = e
 
-search-fine : (k : Kind) (a : Plan) (m : ℕ) (ps : List Point) (l : Ledger) → Fine k (tree a) l → Fine k (searchCall a m ps .state) l
+search-same : (a : Plan) (m : ℕ) (ps : List Point) → searchCall a m ps .state ≡ tree a
 unfolding searchCall
-search-fine k a m ps l w =
-    cond-same (λ (o : Outcome). Fine k (o .state) l) (leb (length ps) m) (record { reply = done; state = tree a; figure = length ps; points = ps }) (refuse noRoom (tree a)) (λ h. w) (λ h. w)
+search-same a m ps =
+    cond-same (λ (o : Outcome). o .state ≡ tree a) (leb (length ps) m) (record { reply = done; state = tree a; figure = length ps; points = ps }) (refuse noRoom (tree a)) (λ h. refl) (λ h. refl)
+
+-- a query changes nothing
+pub ask-same : (a : Plan) (q : Query) → ask a q .state ≡ tree a
+unfolding ask
+ask-same a (Contains p) = refl
+ask-same a Len = refl
+ask-same a IsEmpty = refl
+ask-same a (Radius c r m) = search-same a m (radius c r 32 (a .root))
+ask-same a (Box q m) = search-same a m (box q 32 (a .root))
+ask-same a (Nearest c j m) = search-same a m (nearest (min j 512) c 32 (a .boundary) (a .root))
 
 -- every call keeps a sound tree and its balance
 pub fine-step : (k : Kind) (s : State) (c : Call) (l : Ledger) → Regular k → Proper k c → Fine k s l → Fine k (step k s c .state) (entered k s c l)
@@ -170,13 +180,8 @@ fine-step k broken (Create b cap) l r n w = create-fine k broken b cap l r n tt
 fine-step k broken (Insert p) l r n w = tt
 fine-step k broken (Bulk ps) l r n w = tt
 fine-step k broken (Delete p) l r n w = tt
-fine-step k broken (Contains p) l r n w = tt
-fine-step k broken Len l r n w = tt
-fine-step k broken IsEmpty l r n w = tt
 fine-step k broken Clear l r n w = tt
-fine-step k broken (Radius c x m) l r n w = tt
-fine-step k broken (Box q m) l r n w = tt
-fine-step k broken (Nearest c j m) l r n w = tt
+fine-step k broken (Ask q) l r n w = tt
 fine-step k (tree a) (Create b cap) l r n w = create-fine k (tree a) b cap l r n w
 fine-step k (tree a) (Insert p) l r n w =
     insert-ends k a p (Entered k l (record { stored = l .stored ++ (p ∷ []); removed = l .removed })) w w w (λ h i j. (kept-insert k a (w .0) p n h i j, balanced-insert k a (w .0) l (w .1) p))
@@ -186,17 +191,17 @@ fine-step k (tree a) (Delete p) l r n w =
     (λ t h e.
     let d = deleted k a (w .0) p n r t h e in
     subst (λ (u : Tree 32). Fine k (tree (with-root a u)) (record { stored = l .stored; removed = l .removed ++ (p ∷ []) })) (sym (d .1)) (kept-delete k a (w .0) p n r, balanced-delete k a (w .0) l (w .1) r p n (d .0)))
-fine-step k (tree a) (Contains p) l r n w = w
-fine-step k (tree a) Len l r n w = w
-fine-step k (tree a) IsEmpty l r n w = w
 fine-step k (tree a) Clear l r n w =
     (kept-empty k (a .boundary) (a .capacity) r (w .0 .numbers .of-boundary) (w .0 .sound .boundary .1) (w .0 .sound .capacity) (w .0 .sound .boundary .0), balanced-blank (a .boundary) (a .capacity))
-fine-step k (tree a) (Radius c x m) l r n w = search-fine k a m (radius c x 32 (a .root)) l w
-fine-step k (tree a) (Box q m) l r n w = search-fine k a m (box q 32 (a .root)) l w
-fine-step k (tree a) (Nearest c j m) l r n w = search-fine k a m (nearest (min j 512) c 32 (a .boundary) (a .root)) l w
+fine-step k (tree a) (Ask q) l r n w = subst (λ (s : State). Fine k s l) (sym (ask-same a q)) w
 
 -- ---- any list of calls
 pub held-after : (k : Kind) (s : State) (cs : List Call) (l : Ledger) → Regular k → All (Proper k) cs → Fine k s l → Fine k (run k s cs) (ledger k s cs l)
 unfolding run ledger
 held-after k s [] l r n w = w
 held-after k s (c ∷ cs) l r n w = held-after k (step k s c .state) cs (entered k s c l) r (n .1) (fine-step k s c l r (n .0) w)
+
+-- from a fresh tree: what is held is the accepted inserts less the successful deletes, since the last accepted creation or clear
+pub held-after-creation : (k : Kind) (b : List Side) (cap : ℕ) (cs : List Call) → Regular k → All F64Side b → length b ≡ k .axes → 1 ≤ cap → T (acceptable b) → All (Proper k) cs
+    → Fine k (run k (tree (empty b cap)) cs) (ledger k (tree (empty b cap)) cs blank)
+held-after-creation k b cap cs r q e c h n = held-after k (tree (empty b cap)) cs blank r n (kept-empty k b cap r q e c h, balanced-blank b cap)

@@ -10,7 +10,7 @@ use mathlib.Core.Option.{Option, none, some}
 use lib.ListN.{length}
 use lib.Dec.{T, leb, ltb, eqb, leb→le, ltb→lt, lit≤}
 use Rattle.model.specs.Boxes.{Side, acceptable, inside}
-use Rattle.model.specs.Calls.{Box, Bulk, Call, Clear, Contains, Create, Delete, Insert, IsEmpty, Kind, Len, Nearest, Outcome, Plan, Radius, State, absent, badBoundary, broken, call, create, deleteCall, done, empty, full, give, insertCall, misfit, noCapacity, noNodes, noRoom, octree, onBroken, outside, quadtree, refuse, searchCall, step, tree, ways, with-root}
+use Rattle.model.specs.Calls.{Ask, Box, Bulk, Call, Clear, Contains, Create, Delete, Insert, IsEmpty, Kind, Len, Nearest, Outcome, Plan, Query, Radius, State, absent, ask, badBoundary, broken, call, create, deleteCall, done, empty, full, give, insertCall, misfit, noCapacity, noNodes, noRoom, octree, onBroken, outside, quadtree, refuse, searchCall, step, tree, ways, with-root}
 use Rattle.model.specs.Searches.{box, nearest, radius}
 use Rattle.model.specs.Soundness.{All, Sound}
 use Rattle.model.specs.Trees.{Point, Tree, bag, count, delete, held, insert, nodes}
@@ -24,17 +24,12 @@ use Rattle.model.proofs.Sound.{Clauses, F64Point, Numbers, delete-sound
 
 -- ---- a call is done, or it is refused: then it gives its number and nothing else changes. Bulk alone keeps what it stored
 abbrev pub NotBulk : Call → Type 0
-NotBulk (Bulk ps) = ⊥
 NotBulk (Create b cap) = Unit {0}
 NotBulk (Insert p) = Unit {0}
+NotBulk (Bulk ps) = ⊥
 NotBulk (Delete p) = Unit {0}
-NotBulk (Contains p) = Unit {0}
-NotBulk Len = Unit {0}
-NotBulk IsEmpty = Unit {0}
 NotBulk Clear = Unit {0}
-NotBulk (Radius c r n) = Unit {0}
-NotBulk (Box q n) = Unit {0}
-NotBulk (Nearest c m n) = Unit {0}
+NotBulk (Ask q) = Unit {0}
 
 abbrev pub Settled : State → Outcome → Type 0
 Settled s o = (o .reply ≡ done) ⊎ (o ≡ refuse (o .reply) s)
@@ -76,35 +71,34 @@ search-settled : (a : Plan) (n : ℕ) (ps : List Point) → Settled (tree a) (se
 unfolding searchCall
 search-settled a n ps = cond-same (Settled (tree a)) (leb (length ps) n) (record { reply = done; state = tree a; figure = length ps; points = ps }) (refuse noRoom (tree a)) (λ h. inl refl) (λ h. inr refl)
 
+ask-settled : (a : Plan) (q : Query) → Settled (tree a) (ask a q)
+unfolding ask
+ask-settled a (Contains p) = inl refl
+ask-settled a Len = inl refl
+ask-settled a IsEmpty = inl refl
+ask-settled a (Radius c r m) = search-settled a m (radius c r 32 (a .root))
+ask-settled a (Box q m) = search-settled a m (box q 32 (a .root))
+ask-settled a (Nearest c j m) = search-settled a m (nearest (min j 512) c 32 (a .boundary) (a .root))
+
 call-settled : (k : Kind) (a : Plan) (c : Call) → NotBulk c → Settled (tree a) (call k a c)
 unfolding call
 call-settled k a (Create b cap) n = create-settled (tree a) b cap
 call-settled k a (Insert p) n = insert-ends k a p (Settled (tree a)) (inr refl) (inr refl) (inr refl) (λ h l m. inl refl)
 call-settled k a (Bulk ps) n = absurd n
 call-settled k a (Delete p) n = delete-ends k a p (Settled (tree a)) (inr refl) (inr refl) (λ t h e. inl refl)
-call-settled k a (Contains p) n = inl refl
-call-settled k a Len n = inl refl
-call-settled k a IsEmpty n = inl refl
 call-settled k a Clear n = inl refl
-call-settled k a (Radius c r m) n = search-settled a m (radius c r 32 (a .root))
-call-settled k a (Box q m) n = search-settled a m (box q 32 (a .root))
-call-settled k a (Nearest c j m) n = search-settled a m (nearest (min j 512) c 32 (a .boundary) (a .root))
+call-settled k a (Ask q) n = ask-settled a q
 
 pub done-or-refused : (k : Kind) (s : State) (c : Call) → NotBulk c → Settled s (step k s c)
 unfolding step onBroken
-done-or-refused k (tree a) c n = call-settled k a c n
 done-or-refused k misfit c n = inr refl
 done-or-refused k broken (Create b cap) n = create-settled broken b cap
 done-or-refused k broken (Insert p) n = inr refl
 done-or-refused k broken (Bulk ps) n = inr refl
 done-or-refused k broken (Delete p) n = inr refl
-done-or-refused k broken (Contains p) n = inr refl
-done-or-refused k broken Len n = inr refl
-done-or-refused k broken IsEmpty n = inr refl
 done-or-refused k broken Clear n = inr refl
-done-or-refused k broken (Radius c r m) n = inr refl
-done-or-refused k broken (Box q m) n = inr refl
-done-or-refused k broken (Nearest c j m) n = inr refl
+done-or-refused k broken (Ask q) n = inr refl
+done-or-refused k (tree a) c n = call-settled k a c n
 
 -- ---- what every call keeps
 pub record Kept (k : Kind) (a : Plan) : Type 0 where
@@ -119,13 +113,8 @@ Proper k (Create b cap) = All F64Side b × (length b ≡ k .axes)
 Proper k (Insert p) = F64Point p
 Proper k (Bulk ps) = All F64Point ps
 Proper k (Delete p) = F64Point p
-Proper k (Contains p) = Unit {0}
-Proper k Len = Unit {0}
-Proper k IsEmpty = Unit {0}
 Proper k Clear = Unit {0}
-Proper k (Radius c r n) = Unit {0}
-Proper k (Box q n) = Unit {0}
-Proper k (Nearest c m n) = Unit {0}
+Proper k (Ask q) = Unit {0}
 
 -- what is asked of a kind of tree: the merge order takes every child once, and there is room for a root
 abbrev pub Regular : Kind → Type 0

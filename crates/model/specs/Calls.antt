@@ -64,19 +64,23 @@ empty b cap = record { boundary = b; capacity = cap; root = bag 32 [] }
 abbrev pub with-root : Plan → Tree 32 → Plan
 with-root a t = record { boundary = a .boundary; capacity = a .capacity; root = t }
 
--- ---- calls. A search is lent places for so many answers: "the shortest counts"; bulk gets the points of "the shortest of its lent slices"
+-- ---- calls. A query changes nothing. A search is lent places for so many answers: "the shortest counts"; bulk gets the points of "the shortest of
+-- its lent slices"
+pub data Query : Type 0 where
+  Contains : Point → Query
+  Len : Query
+  IsEmpty : Query
+  Radius : List Float → Float → ℕ → Query
+  Box : List Side → ℕ → Query
+  Nearest : List Float → ℕ → ℕ → Query
+
 pub data Call : Type 0 where
   Create : List Side → ℕ → Call
   Insert : Point → Call
   Bulk : List Point → Call
   Delete : Point → Call
-  Contains : Point → Call
-  Len : Call
-  IsEmpty : Call
   Clear : Call
-  Radius : List Float → Float → ℕ → Call
-  Box : List Side → ℕ → Call
-  Nearest : List Float → ℕ → ℕ → Call
+  Ask : Query → Call
 
 -- the reply, the pieces afterwards, the count or the yes or no, and the answer
 pub record Outcome : Type 0 where
@@ -138,20 +142,25 @@ deleteCall k a p =
 unfoldable pub searchCall : Plan → ℕ → List Point → Outcome
 searchCall a n ps = elim (leb (length ps) n) [ true ↦ record { reply = done; state = tree a; figure = length ps; points = ps } | false ↦ refuse noRoom (tree a) ]
 
--- "k above 512 acts as 512"
+-- "contains, len, is_empty and clear only 8"; "k above 512 acts as 512"
+unfoldable pub ask : Plan → Query → Outcome
+unfolding searchCall contains radius box nearest count
+ask a (Contains p) = give (tree a) (cond (contains 32 (a .boundary) p (a .root)) 1 0)
+ask a Len = give (tree a) (count 32 (a .root))
+ask a IsEmpty = give (tree a) (cond (eqb (count 32 (a .root)) 0) 1 0)
+ask a (Radius c r n) = searchCall a n (radius c r 32 (a .root))
+ask a (Box q n) = searchCall a n (box q 32 (a .root))
+ask a (Nearest c m n) = searchCall a n (nearest (min m 512) c 32 (a .boundary) (a .root))
+
+-- "Clear keeps boundary and capacity and leaves one empty root."
 unfoldable pub call : Kind → Plan → Call → Outcome
-unfolding create insertCall bulkCall deleteCall searchCall contains radius box nearest count
+unfolding create insertCall bulkCall deleteCall ask
 call k a (Create b cap) = create (tree a) b cap
 call k a (Insert p) = insertCall k a p
 call k a (Bulk ps) = bulkCall k a 0 ps
 call k a (Delete p) = deleteCall k a p
-call k a (Contains p) = give (tree a) (cond (contains 32 (a .boundary) p (a .root)) 1 0)
-call k a Len = give (tree a) (count 32 (a .root))
-call k a IsEmpty = give (tree a) (cond (eqb (count 32 (a .root)) 0) 1 0)
 call k a Clear = give (tree (empty (a .boundary) (a .capacity))) 0
-call k a (Radius c r n) = searchCall a n (radius c r 32 (a .root))
-call k a (Box q n) = searchCall a n (box q 32 (a .root))
-call k a (Nearest c m n) = searchCall a n (nearest (min m 512) c 32 (a .boundary) (a .root))
+call k a (Ask q) = ask a q
 
 -- on pieces of the right length that hold no sound tree: "8 | the lent tree is not sound"; a creation does not ask
 unfoldable pub onBroken : Call → Outcome
@@ -160,13 +169,8 @@ onBroken (Create b cap) = create broken b cap
 onBroken (Insert p) = refuse unsound broken
 onBroken (Bulk ps) = refuse unsound broken
 onBroken (Delete p) = refuse unsound broken
-onBroken (Contains p) = refuse unsound broken
-onBroken Len = refuse unsound broken
-onBroken IsEmpty = refuse unsound broken
 onBroken Clear = refuse unsound broken
-onBroken (Radius c r n) = refuse unsound broken
-onBroken (Box q n) = refuse unsound broken
-onBroken (Nearest c m n) = refuse unsound broken
+onBroken (Ask q) = refuse unsound broken
 
 -- what a call gives: "creation 8 (only for pieces of wrong length)"
 unfoldable pub step : Kind → State → Call → Outcome

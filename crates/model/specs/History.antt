@@ -5,7 +5,7 @@ use mathlib.Core.List.{List, [], _∷_, _++_}
 use lib.Dec.{leb, ltb, eqb}
 use Rattle.model.specs.Boxes.{inside}
 use Rattle.model.specs.Trees.{Point, count, nodes, insert}
-use Rattle.model.specs.Calls.{number, Kind, ways, Plan, State, misfit, broken, tree, with-root, Call, Create, Insert, Bulk, Delete, Contains, Len, IsEmpty, Clear, Radius, Box, Nearest, step}
+use Rattle.model.specs.Calls.{number, Kind, ways, Plan, State, misfit, broken, tree, with-root, Call, Create, Insert, Bulk, Delete, Clear, Ask, step}
 
 -- the state after a list of calls
 unfoldable pub run : Kind → State → List Call → State
@@ -47,12 +47,7 @@ entered k s Clear l = cond (done? k s Clear) blank l
 entered k (tree a) (Bulk ps) l = record { stored = l .stored ++ bulkStores k a ps; removed = l .removed }
 entered k misfit (Bulk ps) l = l
 entered k broken (Bulk ps) l = l
-entered k s (Contains p) l = l
-entered k s Len l = l
-entered k s IsEmpty l = l
-entered k s (Radius c r n) l = l
-entered k s (Box q n) l = l
-entered k s (Nearest c m n) l = l
+entered k s (Ask q) l = l
 
 unfoldable pub ledger : Kind → State → List Call → Ledger → Ledger
 unfolding step entered

@@ -6,7 +6,7 @@ use lib.Ieee.{Float, binary64, ofBits, toBits}
 use Rattle.floats.specs.Span.{span}
 use Rattle.model.specs.Boxes.{Side}
 use Rattle.model.specs.Trees.{Point, leaf, branch, Tree, bag, held, nodes}
-use Rattle.model.specs.Calls.{number, quadtree, octree, State, misfit, broken, tree, Call, Create, Insert, Delete, Radius, Box, Nearest, step}
+use Rattle.model.specs.Calls.{number, quadtree, octree, State, misfit, broken, tree, Call, Create, Insert, Delete, Ask, Radius, Box, Nearest, step}
 use Rattle.model.specs.History.{run}
 
 -- ---- numbers by their bits
@@ -141,19 +141,19 @@ given =
     ∷ quadrant 1 (after 1 (Insert p41 ∷ Insert p11 ∷ []))
     -- "Capacity 2, a(1,1), b(5,1), c(1,5); delete c: one node with list b, a. Nearest 1 to (3,1) is then b; before c came it was a."
     ∷ shape (after 2 (Insert a ∷ Insert b ∷ Insert c ∷ Delete c ∷ []))
-    ∷ gives (after 2 (Insert a ∷ Insert b ∷ Insert c ∷ Delete c ∷ [])) (Nearest (place three one) 1 512)
-    ∷ gives (after 2 (Insert a ∷ Insert b ∷ [])) (Nearest (place three one) 1 512)
+    ∷ gives (after 2 (Insert a ∷ Insert b ∷ Insert c ∷ Delete c ∷ [])) (Ask (Nearest (place three one) 1 512))
+    ∷ gives (after 2 (Insert a ∷ Insert b ∷ [])) (Ask (Nearest (place three one) 1 512))
     -- "Radius −1 and NaN give nothing; −0 at (1,1) gives a."
-    ∷ gives (after 2 (Insert a ∷ Insert b ∷ Insert c ∷ [])) (Radius (place one one) (f64 minus-one) 512)
-    ∷ gives (after 2 (Insert a ∷ Insert b ∷ Insert c ∷ [])) (Radius (place one one) (f64 not-a-number) 512)
-    ∷ gives (after 2 (Insert a ∷ Insert b ∷ Insert c ∷ [])) (Radius (place one one) (f64 minus-zero) 512)
+    ∷ gives (after 2 (Insert a ∷ Insert b ∷ Insert c ∷ [])) (Ask (Radius (place one one) (f64 minus-one) 512))
+    ∷ gives (after 2 (Insert a ∷ Insert b ∷ Insert c ∷ [])) (Ask (Radius (place one one) (f64 not-a-number) 512))
+    ∷ gives (after 2 (Insert a ∷ Insert b ∷ Insert c ∷ [])) (Ask (Radius (place one one) (f64 minus-zero) 512))
     -- "k = 0 gives nothing. Capacity 3, a, b, c, NaN centre, k = 2: a, c."
-    ∷ gives (after 3 (Insert a ∷ Insert b ∷ Insert c ∷ [])) (Nearest (place one one) 0 512)
-    ∷ gives (after 3 (Insert a ∷ Insert b ∷ Insert c ∷ [])) (Nearest (place not-a-number one) 2 512)
+    ∷ gives (after 3 (Insert a ∷ Insert b ∷ Insert c ∷ [])) (Ask (Nearest (place one one) 0 512))
+    ∷ gives (after 3 (Insert a ∷ Insert b ∷ Insert c ∷ [])) (Ask (Nearest (place not-a-number one) 2 512))
     -- "With (4,1) and (1,1) held, box (4,0,0,8) gives (4,1)."
-    ∷ gives (after 1 (Insert p41 ∷ Insert p11 ∷ [])) (Box (side four zero-bits ∷ side zero-bits eight ∷ []) 512)
+    ∷ gives (after 1 (Insert p41 ∷ Insert p11 ∷ [])) (Ask (Box (side four zero-bits ∷ side zero-bits eight ∷ []) 512))
     -- "Centre (2^−540, 0), radius 2^−600: (0,0) is given, as both squares compute to 0."
-    ∷ gives (after 1 (Insert (point zero-bits zero-bits 5) ∷ [])) (Radius (place tiny zero-bits) (f64 tinier) 512)
+    ∷ gives (after 1 (Insert (point zero-bits zero-bits 5) ∷ [])) (Ask (Radius (place tiny zero-bits) (f64 tinier) 512))
     ∷ []
 
 -- ---- and what the document says
