@@ -5,7 +5,7 @@ use native.Mathlib.Omega.{arith}
 use mathlib.Core.Path.{_≡_, refl, ap, ap₂, sym, _∙_, subst}
 use mathlib.Core.Bool.{Bool, true, false, not, _&&_, cond}
 use mathlib.Core.List.{List, [], _∷_, _++_, append-assoc, append-nil}
-use lib.ListN.{length}
+use lib.ListN.{length, length-append}
 use lib.Dec.{T, leb, ltb, eqb, eqb→eq}
 use lib.Ieee.{Float, binary64, eq}
 use lib.Ieee.Fits.{and-l, and-r}
@@ -20,7 +20,7 @@ use Rattle.model.proofs.Calls.{Kept, Proper, Regular, after, delete-end
 use Rattle.model.proofs.Counts.{cond-same, held-bag}
 use Rattle.model.proofs.Equal.{taken-same}
 use Rattle.model.proofs.Inside.{F64, F64Side}
-use Rattle.model.proofs.Lists.{all-map, one-if, tally, tally-append}
+use Rattle.model.proofs.Lists.{all-map, one-if, tally, tally-append, tally-true}
 use Rattle.model.proofs.Short.{filled, taken}
 use Rattle.model.proofs.Skip.{all-f64, all-none, f64-all, none-all}
 use Rattle.model.proofs.Sound.{F64Point, deleted-tally, f64-of, inserted-tally}
@@ -58,6 +58,8 @@ same-swap q x p fq fx fp h =
 pub record Balanced (a : Plan) (l : Ledger) : Type 0 where
   -- each held copy is bit for bit one that was inserted: no test tells more of them than were inserted
   pub copies : (g : Point → Bool) → tally g (held 32 (a .root)) ≤ tally g (l .stored)
+  -- how many are held
+  pub size : tally (λ x. true) (held 32 (a .root)) + length (l .removed) ≡ length (l .stored)
   -- for every point: held copies equal to it, and deletes equal to it, are the inserts equal to it
   pub figures : (q : Point) → F64Point q → tally (same q) (held 32 (a .root)) + tally (same q) (l .removed) ≡ tally (same q) (l .stored)
 
@@ -65,6 +67,7 @@ balanced-blank : (b : List Side) (cap : ℕ) → Balanced (empty b cap) blank
 unfolding tally
 balanced-blank b cap = record {
   copies = λ g. le-of-eq (ap (tally g) (held-bag 32 []));
+  size = ap (λ (l : List Point). tally (λ x. true) l + 0) (held-bag 32 []);
   figures = λ q f. ap (λ (l : List Point). tally (same q) l + 0) (held-bag 32 []);
 }
 
@@ -76,6 +79,7 @@ module _ (k : Kind) (a : Plan) (m : Kept k a) (l : Ledger) (w : Balanced a l) wh
   balanced-insert : (p : Point) → Balanced (with-root a (after k a p)) (record { stored = l .stored ++ (p ∷ []); removed = l .removed })
   balanced-insert p = record {
     copies = λ g. omega (arith, inserted-tally k a (m .numbers) (m .sound) p g, w .copies g, tally-append g (l .stored) (p ∷ []), one-tally g p);
+    size = let all : Point → Bool = λ x. true in omega (arith, inserted-tally k a (m .numbers) (m .sound) p all, w .size, length-append (l .stored) (p ∷ []));
     figures = λ q f. omega (arith, inserted-tally k a (m .numbers) (m .sound) p (same q), w .figures q f, tally-append (same q) (l .stored) (p ∷ []), one-tally (same q) p);
   }
 
@@ -97,9 +101,18 @@ module _ (k : Kind) (a : Plan) (m : Kept k a) (l : Ledger) (w : Balanced a l) wh
         go (x ∷ []) e s u = one-tally (same q) x ∙ ap one-if (same-swap q x p f (u .0) n (s .0 .0))
         go (x ∷ y ∷ ys) e s u = absurd (let z = s .1 in omega arith)
 
+    taken-one : tally (λ x. true) (taken 32 (a .boundary) p (a .root)) ≡ 1
+    taken-one = tally-true (taken 32 (a .boundary) p (a .root)) ∙ go (taken 32 (a .boundary) p (a .root)) h (taken-same 32 (a .boundary) p (a .root) .1)
+      where
+        go : (xs : List Point) → T (filled xs) → length xs ≤ 1 → length xs ≡ 1
+        go [] e s = absurd (unfold filled in e)
+        go (x ∷ []) e s = refl
+        go (x ∷ y ∷ ys) e s = absurd (omega arith)
+
     balanced-delete : Balanced (with-root a (rid k a m p n r)) (record { stored = l .stored; removed = l .removed ++ (p ∷ []) })
     balanced-delete = record {
       copies = λ g. omega (arith, deleted-tally k a (m .numbers) (m .sound) (r .0) p g, w .copies g);
+      size = let all : Point → Bool = λ x. true in omega (arith, deleted-tally k a (m .numbers) (m .sound) (r .0) p all, w .size, taken-one, length-append (l .removed) (p ∷ []));
       figures = λ q f. omega (arith, deleted-tally k a (m .numbers) (m .sound) (r .0) p (same q), w .figures q f, taken-tally q f, tally-append (same q) (l .removed) (p ∷ []), one-tally (same q) p);
     }
 
@@ -201,7 +214,70 @@ unfolding run ledger
 held-after k s [] l r n w = w
 held-after k s (c ∷ cs) l r n w = held-after k (step k s c .state) cs (entered k s c l) r (n .1) (fine-step k s c l r (n .0) w)
 
--- from a fresh tree: what is held is the accepted inserts less the successful deletes, since the last accepted creation or clear
+-- ---- a tree stays a tree
+abbrev ATree : State → Type 0
+ATree s = (a : Plan) × (s ≡ tree a)
+
+bulk-tree : (k : Kind) (a : Plan) (n : ℕ) (ps : List Point) → ATree (bulkCall k a n ps .state)
+unfolding bulkCall
+bulk-tree k a n [] = (a, refl)
+bulk-tree k a n (p ∷ ps) =
+    cond-same (λ (o : Outcome). ATree (o .state)) (inside (a .boundary) (p .at)) _ (bulkCall k a n ps)
+    (λ h. cond-same (λ (o : Outcome). ATree (o .state)) (ltb (count 32 (a .root)) 512) _ (record { reply = full; state = tree a; figure = n; points = [] })
+    (λ i. cond-same (λ (o : Outcome). ATree (o .state)) (leb (nodes 32 (after k a p)) (k .most)) (bulkCall k (with-root a (after k a p)) (suc n) ps) (record { reply = noNodes; state = tree a; figure = n; points = [] })
+    (λ j. bulk-tree k (with-root a (after k a p)) (suc n) ps) (λ j. (a, refl))) (λ i. (a, refl)))
+    (λ h. bulk-tree k a n ps)
+
+step-tree : (k : Kind) (a : Plan) (c : Call) → ATree (step k (tree a) c .state)
+unfolding step call create
+step-tree k a (Create b cap) =
+    cond-same (λ (o : Outcome). ATree (o .state)) (eqb cap 0) (refuse noCapacity (tree a)) _ (λ h. (a, refl))
+    (λ h. cond-same (λ (o : Outcome). ATree (o .state)) (acceptable b) (give (tree (empty b cap)) 0) (refuse badBoundary (tree a)) (λ i. (empty b cap, refl)) (λ i. (a, refl)))
+step-tree k a (Insert p) = insert-ends k a p (λ (o : Outcome). ATree (o .state)) (a, refl) (a, refl) (a, refl) (λ h i j. (with-root a (after k a p), refl))
+step-tree k a (Bulk ps) = bulk-tree k a 0 ps
+step-tree k a (Delete p) = delete-ends k a p (λ (o : Outcome). ATree (o .state)) (a, refl) (a, refl) (λ t h e. (with-root a t, refl))
+step-tree k a Clear = (empty (a .boundary) (a .capacity), refl)
+step-tree k a (Ask q) = (a, ask-same a q)
+
+pub run-tree : (k : Kind) (a : Plan) (cs : List Call) → (a' : Plan) × (run k (tree a) cs ≡ tree a')
+unfolding run
+run-tree k a [] = (a, refl)
+run-tree k a (c ∷ cs) =
+    let s = step-tree k a c in
+    let r = run-tree k (s .0) cs in
+    (r .0, ap (λ (u : State). run k u cs) (s .1) ∙ r .1)
+
+-- how many a bulk says it stored
+pub bulk-figure : (k : Kind) (a : Plan) (n : ℕ) (ps : List Point) → bulkCall k a n ps .figure ≡ n + length (bulkStores k a ps)
+unfolding bulkCall bulkStores
+bulk-figure k a n [] = omega arith
+bulk-figure k a n (p ∷ ps) =
+    go (inside (a .boundary) (p .at)) (ltb (count 32 (a .root)) 512) (leb (nodes 32 (after k a p)) (k .most)) (bulk-figure k a n ps)
+    (bulk-figure k (with-root a (after k a p)) (suc n) ps)
+  where
+    go : (x y z : Bool) → bulkCall k a n ps .figure ≡ n + length (bulkStores k a ps) → bulkCall k (with-root a (after k a p)) (suc n) ps .figure ≡ suc n + length (bulkStores k (with-root a (after k a p)) ps)
+        → (elim x as (λ u. Outcome) [
+          | false ↦ bulkCall k a n ps
+          | true ↦ elim y as (λ u. Outcome) [
+            | false ↦ record { reply = full; state = tree a; figure = n; points = [] }
+            | true ↦ elim z as (λ u. Outcome) [ false ↦ record { reply = noNodes; state = tree a; figure = n; points = [] } | true ↦ bulkCall k (with-root a (after k a p)) (suc n) ps ]
+          ]
+        ]) .figure
+        ≡ n + length {A = Point} (elim x as (λ u. List Point) [
+          | false ↦ bulkStores k a ps
+          | true ↦ elim y as (λ u. List Point) [ false ↦ [] | true ↦ elim z as (λ u. List Point) [ false ↦ [] | true ↦ p ∷ bulkStores k (with-root a (after k a p)) ps ] ]
+        ])
+    go true true true e g = omega (arith, g)
+    go true true false e g = omega arith
+    go true false z e g = omega arith
+    go false y z e g = e
+
+-- from a fresh tree, after any list of calls there is a sound tree, and what it holds is the accepted inserts less the successful deletes since the last
+-- accepted creation or clear
 pub held-after-creation : (k : Kind) (b : List Side) (cap : ℕ) (cs : List Call) → Regular k → All F64Side b → length b ≡ k .axes → 1 ≤ cap → T (acceptable b) → All (Proper k) cs
-    → Fine k (run k (tree (empty b cap)) cs) (ledger k (tree (empty b cap)) cs blank)
-held-after-creation k b cap cs r q e c h n = held-after k (tree (empty b cap)) cs blank r n (kept-empty k b cap r q e c h, balanced-blank b cap)
+    → (a : Plan) × (run k (tree (empty b cap)) cs ≡ tree a) × Kept k a × Balanced a (ledger k (tree (empty b cap)) cs blank)
+held-after-creation k b cap cs r q e c h n =
+    let t = run-tree k (empty b cap) cs in
+    let f = held-after k (tree (empty b cap)) cs blank r n (kept-empty k b cap r q e c h, balanced-blank b cap) in
+    let g : Fine k (tree (t .0)) (ledger k (tree (empty b cap)) cs blank) = subst (λ (s : State). Fine k s (ledger k (tree (empty b cap)) cs blank)) (t .1) f in
+    (t .0, t .1, g .0, g .1)

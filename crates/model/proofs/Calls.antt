@@ -1,4 +1,4 @@
--- Calls over time: what every call keeps, and what is held after any list of calls. Over any number of axes and any merge order. Assumes nothing.
+-- Calls: each is done or refused, and what every call keeps. Over any number of axes and any merge order. Assumes nothing.
 use Prim.Native.Nat.{ℕ, _≤_, zero-le, min}
 use native.Mathlib.Nat.{le-trans, le-of-eq}
 use native.Mathlib.Omega.{arith}

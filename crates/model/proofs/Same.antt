@@ -154,7 +154,7 @@ pub record Placed (w cap d j : ℕ) (b : List Side) (p : Point) (t : Tree d) : T
   pub numbers : All F64 (p .at)
   pub is-inside : T (inside b (p .at))
 
-placed-down : (w cap d j : ℕ) (b : List Side) (p : Point) (ts : List (Tree d)) → Placed w cap (suc d) j b p (branch ts) → Placed w cap d (3 + j) (part b (route b (p .at))) p (getD ts (route b (p .at)) (bag d []))
+pub placed-down : (w cap d j : ℕ) (b : List Side) (p : Point) (ts : List (Tree d)) → Placed w cap (suc d) j b p (branch ts) → Placed w cap d (3 + j) (part b (route b (p .at))) p (getD ts (route b (p .at)) (bag d []))
 placed-down w cap d j b p ts a =
     let m : 3 + j ≤ 1023 = let z = a .depth in omega arith in
     record {

@@ -77,7 +77,8 @@ module _ (k : Kind) (a : Plan) (f : Numbers a) (s : Sound k a) where
       ap (nodes 32) (insert-is (ways k) (a .capacity) 32 (a .boundary) p (a .root) (i .axes) (i .good))
       ∙ insert-nodes (ways k) (a .capacity) 32 (a .boundary) p (a .root) (i .axes) (i .good)
 
--- ---- no count falls below 0: at every node on the path of a point that is deleted, one less is held afterwards
+-- ---- no count falls below 0: at a node where a delete succeeds, one less is held afterwards. `Placed` holds again of the child on the path
+-- (`placed-down`), so it is so at every node down to the list
 pub never-below-zero : (w cap d j : ℕ) (o : List ℕ) → Order w o → (b : List Side) (p : Point) (t u : Tree d) → Placed w cap d j b p t → delete o cap d b p t ≡ some u → count d u + 1 ≡ count d t
 unfolding count
 never-below-zero w cap d j o r b p t u a e = go (filled (taken d b p t)) (sym e ∙ delete-is w cap o r d j b p t a) refl

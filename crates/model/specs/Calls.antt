@@ -52,7 +52,7 @@ pub record Plan : Type 0 where
   pub capacity : ℕ
   pub root : Tree 32
 
--- the lent pieces: of wrong length, no sound tree, or a tree
+-- the lent pieces: of wrong length, of the right length with no sound tree, or with a sound one (`Soundness` says when a tree is sound)
 pub data State : Type 0 where
   misfit : State
   broken : State
@@ -96,13 +96,14 @@ refuse r s = record { reply = r; state = s; figure = 0; points = [] }
 abbrev pub give : State → ℕ → Outcome
 give s n = record { reply = done; state = s; figure = n; points = [] }
 
--- ---- each call on a sound tree
+-- ---- each call
 -- "creation 8 (only for pieces of wrong length), 3, 4"
 unfoldable pub create : State → List Side → ℕ → Outcome
 unfolding acceptable
 create s b cap = elim (eqb cap 0) [ true ↦ refuse noCapacity s | false ↦ elim (acceptable b) [ true ↦ give (tree (empty b cap)) 0 | false ↦ refuse badBoundary s ] ]
 
--- "insert 8, 1, 5, 6"
+-- "insert 8, 1, 5, 6": "point outside the boundary (any NaN is outside)", "512 points already held", "storing the point would leave more nodes than
+-- Room allows"
 unfoldable pub insertCall : Kind → Plan → Point → Outcome
 unfolding inside count nodes insert
 insertCall k a p =
@@ -129,7 +130,7 @@ bulkCall k a n (p ∷ ps) =
       ]
     ]
 
--- "delete 8, 1, 2"
+-- "delete 8, 1, 2": "no equal point held"
 unfoldable pub deleteCall : Kind → Plan → Point → Outcome
 unfolding inside delete
 deleteCall k a p =

@@ -1,4 +1,4 @@
--- What a list of calls did: "After any sequence of calls the points held are the accepted inserts less the successful deletes", counted since the last
+-- What a list of calls did, so that it can be said that the points held are the accepted inserts less the successful deletes, counted since the last
 -- accepted creation or clear. Definitions only.
 use mathlib.Core.Bool.{Bool, true, false, cond}
 use mathlib.Core.List.{List, [], _∷_, _++_}

@@ -32,12 +32,12 @@ unfolding after3 after payloads gives shape child quadrant holding full run numb
 two-pairs = refl
 
 -- "First (5,1): accepted."
-pub first-accepted : gives (after 1 pairs) (Insert (point five one 5)) ≡ 0 ∷ []
+pub first-accepted : gives (after 1 pairs) (Insert (point five one 5)) ≡ 0 ∷ 0 ∷ []
 unfolding after3 after payloads gives shape child quadrant holding full run number create insertCall bulkCall deleteCall searchCall ask call onBroken step keep near radius within box less place placeEach children visit worst offer offerEach entry nearest same bag undivided held count total nodes into intoEach insert without joined every merge delete some? contains far onEach holds inside touches meets samePlace mid turn route half part addedTo added differenceSq squared axisDistance axisSq nodeDistance bounded acceptable span lengthened short nextUp flatten zipWith add sub mul div neg le lt eq isNan ofBits toBits
 first-accepted = refl
 
 -- "Second: 377 nodes wanted, so 6."
-pub second-refused : gives (after 1 (pairs ++ (Insert (point five one 5) ∷ []))) (Insert (point five one 6)) ≡ 6 ∷ []
+pub second-refused : gives (after 1 (pairs ++ (Insert (point five one 5) ∷ []))) (Insert (point five one 6)) ≡ 6 ∷ 0 ∷ []
 unfolding after3 after payloads gives shape child quadrant holding full run number create insertCall bulkCall deleteCall searchCall ask call onBroken step keep near radius within box less place placeEach children visit worst offer offerEach entry nearest same bag undivided held count total nodes into intoEach insert without joined every merge delete some? contains far onEach holds inside touches meets samePlace mid turn route half part addedTo added differenceSq squared axisDistance axisSq nodeDistance bounded acceptable span lengthened short nextUp flatten zipWith add sub mul div neg le lt eq isNan ofBits toBits
 second-refused = refl
 
@@ -57,6 +57,6 @@ unfolding after3 after payloads gives shape child quadrant holding full run numb
 octree-route = refl
 
 -- "5 | insert, bulk: 512 points already held": the 512th is accepted
-pub last-place : gives (holding 511) (Insert (point eight eight 1)) ≡ 0 ∷ []
+pub last-place : gives (holding 511) (Insert (point eight eight 1)) ≡ 0 ∷ 0 ∷ []
 unfolding after3 after payloads gives shape child quadrant holding full run number create insertCall bulkCall deleteCall searchCall ask call onBroken step keep near radius within box less place placeEach children visit worst offer offerEach entry nearest same bag undivided held count total nodes into intoEach insert without joined every merge delete some? contains far onEach holds inside touches meets samePlace mid turn route half part addedTo added differenceSq squared axisDistance axisSq nodeDistance bounded acceptable span lengthened short nextUp flatten zipWith add sub mul div neg le lt eq isNan ofBits toBits
 last-place = refl

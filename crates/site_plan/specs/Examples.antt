@@ -2,7 +2,7 @@
 use Prim.Native.Nat.{ℕ, suc}
 use mathlib.Core.List.{List, [], _∷_, map}
 use lib.ListN.{getD, replicate}
-use lib.Ieee.{Float, binary64, ofBits, toBits}
+use lib.Ieee.{Float, binary64, mul, ofBits, toBits}
 use Rattle.floats.specs.Span.{span}
 use Rattle.model.specs.Boxes.{Side}
 use Rattle.model.specs.Trees.{Point, leaf, branch, Tree, bag, held, nodes}
@@ -88,12 +88,12 @@ after cap cs = run quadtree broken (Create plan cap ∷ cs)
 unfoldable pub payloads : List Point → List ℕ
 payloads ps = map (λ (p : Point). p .payload) ps
 
--- what a call gives: its number and the payloads of its answer
+-- what a call gives: its number, its count or yes or no, and the payloads of its answer
 unfoldable pub gives : State → Call → List ℕ
 unfolding payloads
-gives s k = let o = step quadtree s k in number (o .reply) ∷ payloads (o .points)
+gives s k = let o = step quadtree s k in number (o .reply) ∷ o .figure ∷ payloads (o .points)
 
--- the number of nodes and the payloads held, of a tree and of its child with the number i
+-- the number of nodes and the payloads held; and the payloads held in the child with the number i
 unfoldable pub shape : State → List ℕ
 unfolding payloads
 shape misfit = []
@@ -129,6 +129,7 @@ given =
     ∷ gives (after 1 []) (Insert (point eight eight 1))
     ∷ gives (after 1 []) (Insert (point eight eight-and-half 1))
     ∷ gives full (Insert (point eight eight-and-half 1))
+    -- and inside with 512 held it gets 5
     ∷ gives full (Insert (point eight eight 1))
     -- "Extent 0 is accepted, −1 gets 4; 2^500 is accepted, the next double gets 4. Capacity 0 with a NaN boundary gets 3."
     ∷ gives broken (Create (side zero-bits zero-bits ∷ side zero-bits eight ∷ []) 1)
@@ -154,33 +155,35 @@ given =
     ∷ gives (after 1 (Insert p41 ∷ Insert p11 ∷ [])) (Ask (Box (side four zero-bits ∷ side zero-bits eight ∷ []) 512))
     -- "Centre (2^−540, 0), radius 2^−600: (0,0) is given, as both squares compute to 0."
     ∷ gives (after 1 (Insert (point zero-bits zero-bits 5) ∷ [])) (Ask (Radius (place tiny zero-bits) (f64 tinier) 512))
+    ∷ (toBits binary64 (mul binary64 (f64 tiny) (f64 tiny)) ∷ toBits binary64 (mul binary64 (f64 tinier) (f64 tinier)) ∷ [])
     ∷ []
 
 -- ---- and what the document says
 unfoldable pub said : List (List ℕ)
 said =
     (0x3ff0_0000_0000_0001 ∷ 0 ∷ minus-one ∷ [])
-    ∷ (0 ∷ [])
-    ∷ (1 ∷ [])
-    ∷ (1 ∷ [])
-    ∷ (5 ∷ [])
-    ∷ (0 ∷ [])
-    ∷ (4 ∷ [])
-    ∷ (0 ∷ [])
-    ∷ (4 ∷ [])
-    ∷ (3 ∷ [])
+    ∷ (0 ∷ 0 ∷ [])
+    ∷ (1 ∷ 0 ∷ [])
+    ∷ (1 ∷ 0 ∷ [])
+    ∷ (5 ∷ 0 ∷ [])
+    ∷ (0 ∷ 0 ∷ [])
+    ∷ (4 ∷ 0 ∷ [])
+    ∷ (0 ∷ 0 ∷ [])
+    ∷ (4 ∷ 0 ∷ [])
+    ∷ (3 ∷ 0 ∷ [])
     ∷ (5 ∷ 11 ∷ 41 ∷ [])
     ∷ (41 ∷ [])
     ∷ (1 ∷ 2 ∷ 1 ∷ [])
-    ∷ (0 ∷ 2 ∷ [])
-    ∷ (0 ∷ 1 ∷ [])
-    ∷ (0 ∷ [])
-    ∷ (0 ∷ [])
-    ∷ (0 ∷ 1 ∷ [])
-    ∷ (0 ∷ [])
-    ∷ (0 ∷ 1 ∷ 3 ∷ [])
-    ∷ (0 ∷ 41 ∷ [])
-    ∷ (0 ∷ 5 ∷ [])
+    ∷ (0 ∷ 1 ∷ 2 ∷ [])
+    ∷ (0 ∷ 1 ∷ 1 ∷ [])
+    ∷ (0 ∷ 0 ∷ [])
+    ∷ (0 ∷ 0 ∷ [])
+    ∷ (0 ∷ 1 ∷ 1 ∷ [])
+    ∷ (0 ∷ 0 ∷ [])
+    ∷ (0 ∷ 2 ∷ 1 ∷ 3 ∷ [])
+    ∷ (0 ∷ 1 ∷ 41 ∷ [])
+    ∷ (0 ∷ 1 ∷ 5 ∷ [])
+    ∷ (0 ∷ 0 ∷ [])
     ∷ []
 
 -- ---- the examples that are not marked, some of which go down to depth 32
