@@ -12,7 +12,7 @@ use lib.Ieee.{Float, nan, inf, fin, Format, emax, low, up, down, unlike, round, 
 use lib.Ieee.Fits.{down-pos, add-fits, mul-fits, neg-fits}
 use lib.Ieee.Scale.{overflow, finite}
 use Rattle.floats.specs.Values.{plusZero}
-use Rattle.floats.proofs.Order.{mag, P, N, num?, mag-lt, le→key, key→le, le-nums, le-reflexive, le-transitive, scale-le, left, right, zero-mag, zero-fits}
+use Rattle.floats.proofs.Order.{mag, P, N, num?, mag-lt, le→key, key→le, le-nums, le-transitive, scale-le, left, right, zero-mag, zero-fits}
 use Rattle.floats.proofs.Rounding.{Signed, signed-P, signed-N, Rounded, rm, rm-mono, round-signed, G, G-mono, G-zero, add-key, neg-P, neg-N, neg-finite}
 
 -- ---- the least and the greatest value
@@ -126,11 +126,6 @@ pub sub-mono : (f : Format) (x x' z z' : Float) → T (fits f x) → T (fits f x
 unfolding sub
 sub-mono f x x' z z' p p' q q' h k u v = add-mono f x x' (neg z) (neg z') p p' (neg-fits f z q) (neg-fits f z' q') h (neg-anti f z' z q' q k) u v
 
--- ---- one of the two stays
-pub add-mono-left : (f : Format) (x y z : Float) → T (fits f x) → T (fits f y) → T (fits f z) → T (finite z) → T (le x y) → T (le (add f x z) (add f y z))
-add-mono-left f x y z p q r w h =
-    add-mono f x y z z p q r r h (le-reflexive f z r (finite-num z w)) (add-num-r f x z p r (le-nums x y h .0) w) (add-num-r f y z q r (le-nums x y h .1) w)
-
 pub sub-num-r : (f : Format) (x y : Float) → T (fits f x) → T (fits f y) → T (num? x) → T (finite y) → T (num? (sub f x y))
 unfolding sub
 sub-num-r f x y p q u v = add-num-r f x (neg y) p (neg-fits f y q) u (neg-finite y v)
@@ -138,14 +133,6 @@ sub-num-r f x y p q u v = add-num-r f x (neg y) p (neg-fits f y q) u (neg-finite
 pub sub-num-l : (f : Format) (x y : Float) → T (fits f x) → T (fits f y) → T (finite x) → T (num? y) → T (num? (sub f x y))
 unfolding sub
 sub-num-l f x y p q u v = add-num-l f x (neg y) p (neg-fits f y q) u (neg-num y v)
-
-pub sub-mono-left : (f : Format) (x y z : Float) → T (fits f x) → T (fits f y) → T (fits f z) → T (finite z) → T (le x y) → T (le (sub f x z) (sub f y z))
-sub-mono-left f x y z p q r w h =
-    sub-mono f x y z z p q r r h (le-reflexive f z r (finite-num z w)) (sub-num-r f x z p r (le-nums x y h .0) w) (sub-num-r f y z q r (le-nums x y h .1) w)
-
-pub sub-anti-right : (f : Format) (x y z : Float) → T (fits f x) → T (fits f y) → T (fits f z) → T (finite z) → T (le x y) → T (le (sub f z y) (sub f z x))
-sub-anti-right f x y z p q r w h =
-    sub-mono f z z y x r r q p (le-reflexive f z r (finite-num z w)) h (sub-num-l f z y r q w (le-nums x y h .1)) (sub-num-l f z x r p w (le-nums x y h .0))
 
 -- ---- not below zero, an infinity included
 abbrev pub Nonneg : Format → Float → Type 0
@@ -259,14 +246,6 @@ square-mono f (fin s m e) (fin t n d) p q u v h =
     (rm-mono f (m * up e * (m * up e)) (down e * down e) (n * up d * (n * up d)) (down d * down d) (mul-pos (down-pos e) (down-pos e)) (mul-pos (down-pos d) (down-pos d))
     (le-trans (le-of-eq (mul-mul-mul-comm (m * up e) (m * up e) (down d) (down d))) (le-trans (mul-le-mul c c) (le-of-eq (mul-mul-mul-comm (n * up d) (down e) (n * up d) (down e))))))
 
-pub square-neg : (f : Format) (x : Float) → mul f (neg x) (neg x) ≡ mul f x x
-unfolding mul neg
-square-neg f nan = refl
-square-neg f (inf true) = refl
-square-neg f (inf false) = refl
-square-neg f (fin true m e) = refl
-square-neg f (fin false m e) = refl
-
 -- 0 ≤ a ≤ b
 pub nonneg-mag : (f : Format) (x : Float) → Nonneg f x → mag f x ≡ P f x
 nonneg-mag f nan h = refl
@@ -274,12 +253,3 @@ nonneg-mag f (inf true) h = h .1
 nonneg-mag f (inf false) h = refl
 nonneg-mag f (fin true m e) h = h .1
 nonneg-mag f (fin false m e) h = refl
-
-pub nonneg-square-mono : (f : Format) (a b : Float) → T (fits f a) → T (fits f b) → Nonneg f a → T (le a b) → T (le (mul f a a) (mul f b b))
-nonneg-square-mono f a b p q h k =
-    let hb : Nonneg f b = nonneg-up f a b p q h k in
-    square-mono f a b p q (h .0) (hb .0)
-    (ends (mag f a) (mag f b) (P f a) (N f a) (P f b) (N f b) (nonneg-mag f a h) (nonneg-mag f b hb) (h .1) (hb .1) (le→key f a b p q k))
-  where
-    ends : (x y a a' b b' : ℕ) → x ≡ a → y ≡ b → a' ≡ 0 → b' ≡ 0 → a + b' ≤ b + a' → x ≤ y
-    ends x y a a' b b' p q r s h = omega arith

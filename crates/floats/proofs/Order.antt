@@ -332,12 +332,6 @@ num-of nan h = h
 num-of (inf s) h = tt
 num-of (fin s m e) h = tt
 
-pub of-num : (x : Float) → T (num? x) → T (not (isNan x))
-unfolding isNan
-of-num nan h = h
-of-num (inf s) h = tt
-of-num (fin s m e) h = tt
-
 -- `lt` and `le` together
 pub lt-nums : (x y : Float) → T (lt x y) → T (num? x) × T (num? y)
 unfolding lt
@@ -353,14 +347,8 @@ pub lt→le : (x y : Float) → T (lt x y) → T (le x y)
 unfolding le
 lt→le x y h = or-l (lt x y) (eq x y) h
 
-le-lt : (a a' b b' c c' : ℕ) → a + b' ≤ b + a' → b + c' < c + b' → a + c' < c + a'
-le-lt a a' b b' c c' h k = omega arith
-
 lt-le : (a a' b b' c c' : ℕ) → a + b' < b + a' → b + c' ≤ c + b' → a + c' < c + a'
 lt-le a a' b b' c c' h k = omega arith
-
-pub le-lt-trans : (f : Format) (x y z : Float) → T (fits f x) → T (fits f y) → T (fits f z) → T (le x y) → T (lt y z) → T (lt x z)
-le-lt-trans f x y z p q r h k = key→lt f x z p r (le-nums x y h .0) (lt-nums y z k .1) (le-lt (P f x) (N f x) (P f y) (N f y) (P f z) (N f z) (le→key f x y p q h) (lt→key f y z q r k))
 
 pub lt-le-trans : (f : Format) (x y z : Float) → T (fits f x) → T (fits f y) → T (fits f z) → T (lt x y) → T (le y z) → T (lt x z)
 lt-le-trans f x y z p q r h k = key→lt f x z p r (lt-nums x y h .0) (le-nums y z k .1) (lt-le (P f x) (N f x) (P f y) (N f y) (P f z) (N f z) (lt→key f x y p q h) (le→key f y z q r k))

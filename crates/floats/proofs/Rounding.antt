@@ -1,7 +1,7 @@
 -- Rounding, in units. The counts of a sum or a difference are the exact ones, rounded by `G`; G keeps the order and leaves the count of every value as it is. Assumes nothing.
 use mathlib.Core.Path.{_≡_, refl, sym, ap, _∙_, subst}
-use Prim.Native.Nat.{ℕ, zero, suc, _+_, _-_, _*_, _/_, _%_, _^_, _≤_, _<_, zero-le}
-use native.Mathlib.Nat.{le-trans, le-refl, le-of-eq, le-of-lt, mul-comm, mul-assoc, mul-le-mul-right, mul-pos, mul-one, mul-sub, mul-div-cancel, div-one, sub-add-cancel}
+use Prim.Native.Nat.{ℕ, zero, suc, _+_, _-_, _*_, _/_, _%_, _^_, _≤_, _<_}
+use native.Mathlib.Nat.{le-trans, le-of-eq, mul-comm, mul-assoc, mul-le-mul-right, mul-pos, mul-one, mul-sub, mul-div-cancel, div-one, sub-add-cancel}
 use native.Mathlib.Omega.{arith}
 use mathlib.Core.Bool.{Bool, true, false, not, _&&_, cond}
 use lib.IntN.{ℤ, pos, negsuc}
@@ -57,11 +57,6 @@ rm-mono f a b c d B D h =
     (le-trans (bare (P f x) (N f x) (P f y) (N f y) (signed-N f false (rm f a b) x (round-signed f false a b)) (signed-N f false (rm f c d) y (round-signed f false c d)) k)
     (le-of-eq (signed-P f false (rm f c d) y (round-signed f false c d))))
 
-pub mag-le : (f : Format) (x : Float) → T (fits f x) → mag f x ≤ overflow f
-mag-le f nan p = zero-le
-mag-le f (inf s) p = le-refl (overflow f)
-mag-le f (fin s m e) p = le-of-lt (mag-lt f s m e p)
-
 -- ---- n units, rounded
 unfoldable pub G : Format → ℕ → ℕ
 G f n = rm f n (2 ^ low f)
@@ -69,10 +64,6 @@ G f n = rm f n (2 ^ low f)
 pub G-mono : (f : Format) (a b : ℕ) → a ≤ b → G f a ≤ G f b
 unfolding G
 G-mono f a b h = rm-mono f a (2 ^ low f) b (2 ^ low f) (pow-pos (low f)) (pow-pos (low f)) (mul-le-mul-right (2 ^ low f) h)
-
-pub G-le : (f : Format) (n : ℕ) → G f n ≤ overflow f
-unfolding G
-G-le f n = mag-le f (round f false n (2 ^ low f)) (round-fits f false n (2 ^ low f))
 
 -- a fraction of A units
 pub rm-is : (f : Format) (s : Bool) (a c A : ℕ) → 0 < c → a * 2 ^ low f ≡ A * c → Signed f s (G f A) (round f s a c)

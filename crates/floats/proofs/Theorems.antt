@@ -3,12 +3,12 @@ use mathlib.Core.Path.{_≡_, refl}
 use mathlib.Core.Logic.{_⊎_}
 use mathlib.Core.Bool.{false, not}
 use lib.Dec.{T}
-use lib.Ieee.{Float, nan, inf, binary64, add, sub, mul, lt, le, fits, isNan, ofBits, toBits}
+use lib.Ieee.{Float, nan, inf, binary64, add, sub, mul, lt, le, eq, fits, isNan, ofBits, toBits}
 use lib.Ieee.Scale.{finite}
 use Rattle.floats.specs.Values.{plusZero}
 use Rattle.floats.specs.Next.{nextUp}
 use Rattle.floats.specs.Span.{lengthened, span}
-use Rattle.floats.proofs.Order.{num-of, le-transitive, le-total, lt-is, nan-le, le-nan, lt→key, key→lt, key→le, lt-nums, lt→le}
+use Rattle.floats.proofs.Order.{eq-reflexive, eq-symmetric, eq-transitive, le-eq, num-of, le-transitive, le-total, lt-is, nan-le, le-nan, lt→key, key→lt, key→le, lt-nums, lt→le}
 use Rattle.floats.proofs.Monotone.{le→nonneg, nonneg-add-mono}
 use Rattle.floats.proofs.Next.{next-up}
 use Rattle.floats.proofs.Distance.{Between}
@@ -35,6 +35,20 @@ module _ (x y : Float) (p : F64 x) (q : F64 y) where
 
 pub order-nan : (x : Float) → (le nan x ≡ false) × (le x nan ≡ false)
 order-nan x = (nan-le x, le-nan x)
+
+-- ---- equality is an equivalence away from NaN, and equal values stand on the same side of every third one
+pub equal-reflexive : (x : Float) → F64 x → NoNan x → T (eq x x)
+equal-reflexive x p u = eq-reflexive binary64 x p (num-of x u)
+
+module _ (x y : Float) (p : F64 x) (q : F64 y) (h : T (eq x y)) where
+  pub equal-symmetric : T (eq y x)
+  equal-symmetric = eq-symmetric binary64 x y p q h
+
+  pub equal-transitive : (z : Float) → F64 z → T (eq y z) → T (eq x z)
+  equal-transitive z r k = eq-transitive binary64 x y z p q r h k
+
+  pub equal-sides : (z : Float) → F64 z → le z x ≡ le z y
+  equal-sides z r = le-eq binary64 z x y r p q h
 
 -- ---- the next value up is the least that is larger
 pub next-least : (x : Float) → F64 x → T (lt x (inf false)) → F64 (nextUp binary64 x) × T (lt x (nextUp binary64 x)) × ((y : Float) → F64 y → T (lt x y) → T (le (nextUp binary64 x) y))

@@ -6,13 +6,13 @@ use mathlib.Core.Bool.{Bool, true, false, cond}
 use mathlib.Core.List.{List, [], _∷_, zipWith}
 use lib.Dec.{T}
 use lib.Ieee.{Float, nan, inf, fin, binary64, add, sub, le, lt}
-use lib.Ieee.Fits.{and-l, and-r, add-fits, sub-fits, mul-fits, cond-fits}
+use lib.Ieee.Fits.{and-l, and-r, add-fits, sub-fits, mul-fits}
 use lib.Ieee.Scale.{finite}
 use Rattle.floats.specs.Values.{plusZero}
 use Rattle.floats.proofs.Order.{num?, mag, zero-mag, zero-fits, lt→le, le-reflexive}
 use Rattle.floats.proofs.Monotone.{Nonneg, sub-num-l, sub-num-r, square-mono, square-nonneg, nonneg-add, nonneg-add-mono}
 use Rattle.floats.proofs.Distance.{sub-swap, size-kept}
-use Rattle.model.specs.Boxes.{Side, far, holds, inside, addedTo, added, square, differenceSq, squared, axisDistance, axisSq, nodeDistance}
+use Rattle.model.specs.Boxes.{Side, far, holds, inside, addedTo, added, square, differenceSq, squared, axisSq, nodeDistance}
 use Rattle.model.specs.Soundness.{All}
 use Rattle.model.proofs.Inside.{F64, F64Side, far-held}
 
@@ -54,12 +54,6 @@ pub record Axis (s : Side) (x v : Float) : Type 0 where
   pub num-v : T (num? v)
   pub above : T (le (s .corner) x)
   pub under : T (le x (far s))
-
-pub axis-held : (s : Side) (v : Float) → F64 (axisDistance s v)
-unfolding axisDistance
-axis-held s v =
-    cond-fits binary64 (lt v (s .corner)) (sub binary64 (s .corner) v) (cond (lt (far s) v) (sub binary64 v (far s)) plusZero) (sub-fits binary64 (s .corner) v)
-    (cond-fits binary64 (lt (far s) v) (sub binary64 v (far s)) plusZero (sub-fits binary64 v (far s)) (zero-fits binary64))
 
 -- 0 ≤ a ≤ b, both values of an f64
 abbrev pub Under : Float → Float → Type 0

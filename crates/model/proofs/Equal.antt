@@ -53,9 +53,6 @@ first-none p (q ∷ qs) h = go (same p q) (first-none p qs) h
     go false ih h = let z = ih h in omega arith
 
 -- a list whose points all go to child i has none equal to a point that goes elsewhere
-fitted : Point → Bool
-fitted q = all-f64 (q .at)
-
 elsewhere : (b : List Side) (i : ℕ) (p : Point) (ps : List Point) → All F64 (p .at) → (route b (p .at) ≡ i → ⊥) → tally (strays b i) ps ≡ 0 → tally (λ q. not (all-f64 (q .at))) ps ≡ 0 → tally (same p) ps ≡ 0
 unfolding tally
 elsewhere b i p [] h n s f = refl

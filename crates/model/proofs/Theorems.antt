@@ -1,5 +1,5 @@
 -- What is true of the definitions, over any number of axes and any merge order. `F64` and `Numbers` say that every number is a value of an f64. Assumes nothing.
-use Prim.Native.Nat.{ℕ, suc, _+_, _*_, _≤_}
+use Prim.Native.Nat.{ℕ, suc, _+_, _*_, _≤_, _<_}
 use native.Mathlib.Omega.{arith}
 use mathlib.Core.Path.{_≡_, refl, ap, sym, _∙_}
 use mathlib.Core.Bool.{Bool, true, false, not}
@@ -13,20 +13,20 @@ use Rattle.model.specs.Boxes.{Side, acceptable, inside, meets, nodeDista
 use Rattle.model.specs.Calls.{Kind, Plan, ways}
 use Rattle.model.specs.Searches.{box, nearest, radius, visit}
 use Rattle.model.specs.Soundness.{All, Sound}
-use Rattle.model.specs.Trees.{Point, Tree, count, delete, held, insert, nodes}
+use Rattle.model.specs.Trees.{Point, Tree, contains, count, delete, held, insert, nodes, same}
 use Rattle.model.proofs.Counts.{Order, delete-count}
 use Rattle.model.proofs.Distance.{Finite, Number, node-under}
-use Rattle.model.proofs.Equal.{taken-same}
+use Rattle.model.proofs.Equal.{contains-none, contains-some, taken-same}
 use Rattle.model.proofs.First.{by-distance}
 use Rattle.model.proofs.Inside.{F64, F64Side, acceptable-bounded, descend, descend-inside}
-use Rattle.model.proofs.Lists.{all-map, tally-true}
+use Rattle.model.proofs.Lists.{all-map, tally, tally-true}
 use Rattle.model.proofs.Meet.{shared-meet}
 use Rattle.model.proofs.Nearest.{nearest-skips, nearest-walk}
 use Rattle.model.proofs.Room.{insert-nodes, needed}
-use Rattle.model.proofs.Same.{Placed, delete-is, given, insert-is}
+use Rattle.model.proofs.Same.{Placed, contains-is, delete-is, given, insert-is}
 use Rattle.model.proofs.Short.{deleteS, filled, taken}
-use Rattle.model.proofs.Skip.{box-skips, box-walk, clear, lies, lies-held, lies-inside, none-all, radius-skips, radius-walk}
-use Rattle.model.proofs.Sound.{Inner, Numbers, inner}
+use Rattle.model.proofs.Skip.{all-f64, all-none, box-skips, box-walk, clear, lies, lies-held, lies-inside, none-all, radius-skips, radius-walk}
+use Rattle.model.proofs.Sound.{F64Point, Inner, Numbers, f64-of, inner, placed}
 
 -- ---- boxes
 -- a place inside an acceptable boundary is inside the box of every node on its path, down to depth 32
@@ -70,6 +70,17 @@ module _ (k : Kind) (a : Plan) (f : Numbers a) (s : Sound k a) where
     -- "With a NaN in the centre .. for n > k ≥ 1 the answer is the first k − 1 visited and the last."
     pub nan-centre : (m : ℕ) (vs : List Point) (p : Point) → T (not (clear c)) → visit 32 (a .boundary) c (a .root) ≡ vs ++ (p ∷ []) → m ≤ length vs → nearest (suc m) c 32 (a .boundary) (a .root) ≡ take m vs ++ (p ∷ [])
     nan-centre m vs p h v l = firsts.nan-centre m 32 (a .boundary) c (a .root) vs p e h (i .all-in) v l
+
+  -- contains says yes exactly where an equal point is held
+  pub contains-held : (o : List ℕ) → Order (ways k) o → (p : Point) → F64Point p → T (inside (a .boundary) (p .at))
+      → (contains 32 (a .boundary) p (a .root) ≡ true → 0 < tally (same p) (held 32 (a .root))) × (contains 32 (a .boundary) p (a .root) ≡ false → tally (same p) (held 32 (a .root)) ≡ 0)
+  contains-held o r p n h =
+      let e = contains-is (ways k) (a .capacity) 32 501 (a .boundary) p (a .root) (placed k a p i n h) in
+      let g : Point → Bool = λ x. all-f64 (x .at) in (
+        λ y. contains-some (ways k) (a .capacity) o r 32 (a .boundary) p (a .root) (i .axes) (i .good) (sym e ∙ y),
+        λ y. contains-none (ways k) (a .capacity) p n 32 (a .boundary) (a .root) (i .axes) (i .good)
+            (all-none g (held 32 (a .root)) (all-map F64Point (λ (x : Point). T (g x)) (held 32 (a .root)) (λ x u. f64-of (x .at) u) (f .of-points))) (sym e ∙ y),
+      )
 
   -- what insert counts before it splits is what the split takes
   pub nodes-needed : (p : Point) → nodes 32 (insert (ways k) (a .capacity) 32 (a .boundary) p (a .root)) ≡ nodes 32 (a .root) + ways k * needed (a .capacity) 32 (a .boundary) p (a .root)
