@@ -11,7 +11,7 @@ use lib.Dec.{T, ltb, T-not, not-T, ltb→lt, nltb→le, lt→ltb}
 use lib.Ieee.{Float, nan, binary64, le, lt, eq, isNan}
 use Rattle.floats.proofs.Order.{eq-symmetric, eq-transitive, eq→le, le-nan, le-nums, lt→nle, nat-total}
 use Rattle.model.specs.Boxes.{Side, nodeDistance, squared}
-use Rattle.model.specs.Searches.{Entry, entry, keep, less, nearest, offer, offerEach, place, placeEach, visit, worst}
+use Rattle.model.specs.Searches.{At, Entry, entry, keep, less, nearest, offer, offerEach, place, placeEach, visit, worst}
 use Rattle.model.specs.Soundness.{All}
 use Rattle.model.specs.Trees.{Point, Tree, held}
 use Rattle.model.proofs.Counts.{cond-same}
@@ -40,9 +40,9 @@ last-tail f y (z ∷ zs) h = refl
 suc-test : (m n : ℕ) → ltb (suc m) (suc n) ≡ ltb m n
 suc-test m n = lib.Dec.leb·suc-suc (suc m) n
 
-pub place-pass : (x y : Entry) (ys : List Entry) → T (not (less (x .dist) (y .dist))) → place x (y ∷ ys) ≡ y ∷ place x ys
+pub place-pass : {A : Type 0} (x y : At A) (ys : List (At A)) → T (not (less (x .dist) (y .dist))) → place x (y ∷ ys) ≡ y ∷ place x ys
 unfolding place
-place-pass x y ys n = cond-same (λ (l : List Entry). l ≡ y ∷ place x ys) (less (x .dist) (y .dist)) (x ∷ y ∷ ys) (y ∷ place x ys) (λ l. absurd (T-not (less (x .dist) (y .dist)) n l)) (λ l. refl)
+place-pass {A} x y ys n = cond-same (λ (l : List (At A)). l ≡ y ∷ place x ys) (less (x .dist) (y .dist)) (x ∷ y ∷ ys) (y ∷ place x ys) (λ l. absurd (T-not (less (x .dist) (y .dist)) n l)) (λ l. refl)
 
 pub offer-pass : (k : ℕ) (x y : Entry) (ys : List Entry) → T (not (less (x .dist) (y .dist))) → T (le (y .dist) (x .dist)) → offer (suc k) x (y ∷ ys) ≡ y ∷ offer k x ys
 unfolding offer worst
@@ -66,9 +66,9 @@ offer-pass k x y (z ∷ zs) n h = ap (λ (t : Bool). shape t (worst (λ w. le w 
     go false false = place-pass x y (dropLast (z ∷ zs)) n
 
 -- ---- one offer: a newcomer that is before all
-pub place-front : (x y : Entry) (ys : List Entry) → T (less (x .dist) (y .dist)) → place x (y ∷ ys) ≡ x ∷ y ∷ ys
+pub place-front : {A : Type 0} (x y : At A) (ys : List (At A)) → T (less (x .dist) (y .dist)) → place x (y ∷ ys) ≡ x ∷ y ∷ ys
 unfolding place
-place-front x y ys h = cond-same (λ (l : List Entry). l ≡ x ∷ y ∷ ys) (less (x .dist) (y .dist)) (x ∷ y ∷ ys) (y ∷ place x ys) (λ l. refl) (λ l. absurd (T-not (less (x .dist) (y .dist)) l h))
+place-front {A} x y ys h = cond-same (λ (l : List (At A)). l ≡ x ∷ y ∷ ys) (less (x .dist) (y .dist)) (x ∷ y ∷ ys) (y ∷ place x ys) (λ l. refl) (λ l. absurd (T-not (less (x .dist) (y .dist)) l h))
 
 drop-take : {A : Type 0} (y : A) (ys : List A) → dropLast (y ∷ ys) ≡ take (length ys) (y ∷ ys)
 drop-take y [] = refl

@@ -209,7 +209,7 @@ node-number j b c r g q = added-number (zipWith axisSq b c) (axes-nonneg j b c r
 abbrev pub Fit : List Float → Entry → Type 0
 Fit c e = F64 (e .dist) × (T (not (clear c)) → e .dist ≡ nan)
 
-pub drop-all : (Q : Entry → Type 0) (ys : List Entry) → All Q ys → All Q (dropLast ys)
+pub drop-all : {A : Type 0} (Q : A → Type 0) (ys : List A) → All Q ys → All Q (dropLast ys)
 drop-all Q [] h = tt
 drop-all Q (y ∷ []) h = tt
 drop-all Q (y ∷ z ∷ zs) h = (h .0, drop-all Q (z ∷ zs) (h .1))

@@ -1,10 +1,14 @@
 // C entry points for the oracle's runs: each hands its numbers to the function that is compared with the Rust.
 ghost use mathlib.Core.Path.{_≡_};
+ghost use Prim.Native.Nat.{min};
+ghost use lib.ListN.{length, take};
 ghost use lib.Ieee.{binary64, ofBits, toBits};
 ghost use Rattle.floats.specs.Next.{nextUp};
 ghost use Rattle.floats.specs.Span.{span};
 ghost use Rattle.model.specs.Boxes.{mid, axisDistance, inside, meets, samePlace, route, part, squared, nodeDistance};
 ghost use Rattle.geometry.specs.Sides.{side, sides2, sides3, place2, place3};
+ghost use Rattle.model.specs.Searches.{less};
+ghost use Rattle.knn.specs.Candidates.{Written, kept, ByModel, bar, ordered};
 use geometry::axis;
 use geometry::plane::Point2D;
 use geometry::plane::Rectangle;
@@ -149,4 +153,41 @@ pub extern "C" fn probe_same_3d(p: Point3D, other: Point3D) -> bool
     ensures { λ a. ⌜ a ≡ samePlace (place3 p) (place3 other) ⌝ }
 {
     p.same(other)
+}
+
+#[no_mangle]
+pub extern "C" fn probe_less(x: f64, y: f64) -> bool
+    ensures { λ r. ⌜ r ≡ less x y ⌝ }
+{
+    knn::less(x, y)
+}
+
+#[no_mangle]
+pub extern "C" fn probe_worst(dist: &[f64], count: usize, k: usize) -> f64
+    ensures { λ r. ⌜ r ≡ bar (min (min k 512) (length (now (dist .entry)))) (take count (now (dist .entry))) ⌝ }
+{
+    knn::worst(dist, count, k)
+}
+
+#[no_mangle]
+pub extern "C" fn probe_offer(
+    dist: &mut [f64],
+    item: &mut [u32],
+    count: usize,
+    k: usize,
+    distance: f64,
+    place: u32,
+) -> usize
+    ensures { λ r. ⌜ r ≡ length (kept count k distance place (now (dist .entry)) (now (item .entry))) ⌝ }
+    ensures table { λ _. ⌜ Written (kept count k distance place (now (dist .entry)) (now (item .entry))) (now (dist .entry)) (now (item .entry)) (now (dist .exit)) (now (item .exit)) ⌝ }
+    ensures model { λ r. ⌜ ByModel count k distance place (now (dist .entry)) (now (item .entry)) (now (dist .exit)) (now (item .exit)) r ⌝ }
+{
+    knn::offer(dist, item, count, k, distance, place)
+}
+
+#[no_mangle]
+pub extern "C" fn probe_order_children(dist: &mut [f64], item: &mut [u32])
+    ensures { λ _. ⌜ Written (ordered (now (dist .entry)) (now (item .entry))) (now (dist .entry)) (now (item .entry)) (now (dist .exit)) (now (item .exit)) ⌝ }
+{
+    knn::order_children(dist, item);
 }

@@ -1,0 +1,5 @@
+pub mod Arrays
+pub mod Children
+pub mod Offers
+pub mod Order
+pub mod Bar
