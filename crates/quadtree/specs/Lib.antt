@@ -1,0 +1,2 @@
+-- What the quadtree's own types mean. Definitions only.
+pub mod Questions

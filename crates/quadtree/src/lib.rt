@@ -1,0 +1,3 @@
+// The quadtree: quadtree.rs, over places in lent pieces.
+pub mod place;
+pub mod search;

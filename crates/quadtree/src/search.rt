@@ -1,0 +1,104 @@
+// Searches by a radius and by a box: collect_in_radius and collect_in_bbox of the Rust, as one walk with two kinds of question.
+ghost use mathlib.Core.Path.{_≡_};
+ghost use mathlib.Core.Bool.{cond};
+ghost use mathlib.Core.List.{[], _∷_};
+ghost use lib.ListN.{length};
+ghost use Rattle.words.specs.Words.{words};
+ghost use Rattle.geometry.specs.Sides.{place2, sides2};
+ghost use Rattle.trees.specs.Points.{pointAt};
+ghost use Rattle.trees.proofs.Walks.{Notes};
+ghost use Rattle.trees.proofs.Collects.{Collects, passing};
+ghost use Rattle.quadtree.specs.Questions.{meets, takes};
+use geometry::plane::Point2D;
+use geometry::plane::Rectangle;
+use crate::place::point;
+use pool::child;
+use pool::first;
+use pool::group;
+use pool::next;
+
+// What is asked: the points within a squared radius, or those in a box.
+pub enum Question {
+    Radius(Point2D, f64),
+    Box(Rectangle),
+}
+
+// Whether a node with this box can hold a point that is asked for.
+fn reaches(q: Question, bounds: Rectangle) -> bool
+    ensures { λ r. ⌜ r ≡ meets q (sides2 bounds) ⌝ }
+{
+    match q {
+        Question::Radius(center, rr) => !(bounds.min_distance_sq(center) > rr),
+        Question::Box(query) => bounds.intersects(query),
+    }
+}
+
+// Whether a point is asked for.
+fn asks(q: Question, point: Point2D) -> bool
+    ensures { λ r. ⌜ r ≡ takes q (place2 point) ⌝ }
+{
+    match q {
+        Question::Radius(center, rr) => point.distance_sq(center) <= rr,
+        Question::Box(query) => query.contains(point),
+    }
+}
+
+// Notes place p as number n, if it is to be noted: how many are then noted.
+fn note(found: &mut [u32], n: usize, p: u32, yes: bool) -> usize
+    ensures { λ r. ⌜ Notes (cond yes (p ∷ []) []) (now (found .entry)) n (now (found .exit)) r ⌝ }
+{
+    if yes {
+        if n < found.len() {
+            found[n] = p;
+            return n + 1;
+        }
+    }
+    n
+}
+
+// Notes the places of a list whose points are asked for. A list has no more places than there are links.
+fn collect_list(links: &[u8], points: &[u8], head: u32, q: Question, found: &mut [u32], n: usize) -> usize
+    ensures { λ r. ⌜ Notes (passing (λ p. takes q (pointAt 2 (words (now (points .entry))) p .at)) (length (words (now (links .entry)))) (words (now (links .entry))) head) (now (found .entry)) n (now (found .exit)) r ⌝ }
+{
+    let mut left = links.len() / 4;
+    let mut p = head;
+    let mut m = n;
+    while left > 0 {
+        if p == 0 {
+            return m;
+        }
+        let at = point(points, p);
+        let yes = asks(q, at);
+        m = note(found, m, p, yes);
+        p = next(links, p);
+        left -= 1;
+    }
+    m
+}
+
+// Notes, from number n on, the places of the points that are asked for, in the tree at node i with this box and so many levels below it.
+pub fn collect(nodes: &[u8], links: &[u8], points: &[u8], i: usize, bounds: Rectangle, levels: usize, q: Question, found: &mut [u32], n: usize) -> usize
+    ensures { λ r. ⌜ Collects (meets q) (λ p. takes q (pointAt 2 (words (now (points .entry))) p .at)) 4 (words (now (nodes .entry))) (words (now (links .entry))) levels (sides2 bounds) i (now (found .entry)) n (now (found .exit)) r ⌝ }
+{
+    if !reaches(q, bounds) {
+        return n;
+    }
+    let k = group(nodes, i);
+    if k == 0 {
+        let head = first(nodes, i);
+        return collect_list(links, points, head, q, found, n);
+    }
+    if levels == 0 {
+        return n;
+    }
+    let below = levels - 1;
+    let mut m = n;
+    let mut c: u8 = 0;
+    while c < 4 {
+        let j = child(4, k, c);
+        let part = bounds.child(c as usize);
+        m = collect(nodes, links, points, j, part, below, q, found, m);
+        c += 1;
+    }
+    m
+}

@@ -1,0 +1,2 @@
+-- What both trees share. Definitions only.
+pub mod Points
