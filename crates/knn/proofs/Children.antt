@@ -1,15 +1,16 @@
 -- The order of children, one child after the other, and that it is the model's. Assumes nothing.
 use mathlib.Core.Path.{_≡_, refl, ap, ap₂, sym, _∙_, subst}
 use mathlib.Core.Bool.{Bool, true, false}
-use mathlib.Core.List.{List, [], _∷_, _++_, map}
+use mathlib.Core.List.{List, [], _∷_, _++_, map, dropLast}
 use Prim.Native.Nat.{ℕ, suc, _+_, _-_, _<_, _≤_, min}
 use native.Mathlib.Numerals.{add-one}
 use native.Mathlib.Omega.{arith}
 use lib.ListN.{length, getD, take, drop, length-append, length-map}
 use lib.Seq.{append-snoc, drop-append-add, drop-cons, drop-drop, getD-at, length-sets, length-take-le, sets, take-suc}
-use lib.Ieee.{Float, nan}
+use lib.Dec.{ltb}
+use lib.Ieee.{Float, nan, le}
 use Rattle.model.specs.Boxes.{Side, nodeDistance, part}
-use Rattle.model.specs.Searches.{At, Child, children, less, place, placeEach}
+use Rattle.model.specs.Searches.{At, Child, children, less, offer, offerEach, place, placeEach, worst}
 use Rattle.model.specs.Trees.{Tree}
 use Rattle.model.proofs.Inside.{F64}
 use Rattle.model.proofs.Nearest.{place-all}
@@ -130,11 +131,41 @@ module _ {A B : Type 0} (f : A → B) where
   placeEach-renamed t [] = refl
   placeEach-renamed t (x ∷ xs) = ap (λ (l : List (At B)). placeEach l (map renamed xs)) (place-renamed x t) ∙ placeEach-renamed (place x t) xs
 
+  -- an offer looks at distances only
+  pub worst-renamed : (g : Float → Bool) (t : List (At A)) → worst g (map renamed t) ≡ worst g t
+  unfolding worst
+  worst-renamed g [] = refl
+  worst-renamed g (y ∷ []) = refl
+  worst-renamed g (y ∷ z ∷ zs) = worst-renamed g (z ∷ zs)
+
+  drop-renamed : (t : List (At A)) → dropLast (map renamed t) ≡ map renamed (dropLast t)
+  drop-renamed [] = refl
+  drop-renamed (y ∷ []) = refl
+  drop-renamed (y ∷ z ∷ zs) = ap {B = List (At B)} (λ l. renamed y ∷ l) (drop-renamed (z ∷ zs))
+
+  offer-renamed : (k : ℕ) (x : At A) (t : List (At A)) → offer k (renamed x) (map renamed t) ≡ map renamed (offer k x t)
+  unfolding offer
+  offer-renamed k x t =
+      ap₂ (λ (m : ℕ) (w : Bool). elim (ltb m k) as (λ u. List (At B)) [ true ↦ place (renamed x) (map renamed t) | false ↦ elim w as (λ u. List (At B)) [ true ↦ map renamed t | false ↦ place (renamed x) (dropLast (map renamed t)) ] ])
+      (length-map t renamed) (worst-renamed (λ w. le w (x .dist)) t)
+      ∙ go (ltb (length t) k) (worst (λ w. le w (x .dist)) t)
+    where
+      go : (b w : Bool) → elim b as (λ u. List (At B)) [ true ↦ place (renamed x) (map renamed t) | false ↦ elim w as (λ u. List (At B)) [ true ↦ map renamed t | false ↦ place (renamed x) (dropLast (map renamed t)) ] ]
+          ≡ map renamed (elim b as (λ u. List (At A)) [ true ↦ place x t | false ↦ elim w as (λ u. List (At A)) [ true ↦ t | false ↦ place x (dropLast t) ] ])
+      go true w = place-renamed x t
+      go false true = refl
+      go false false = ap (place (renamed x)) (drop-renamed t) ∙ place-renamed x (dropLast t)
+
+  pub offerEach-renamed : (k : ℕ) (t xs : List (At A)) → offerEach k (map renamed t) (map renamed xs) ≡ map renamed (offerEach k t xs)
+  unfolding offerEach
+  offerEach-renamed k t [] = refl
+  offerEach-renamed k t (x ∷ xs) = ap (λ (l : List (At B)). offerEach k l (map renamed xs)) (offer-renamed k x t) ∙ offerEach-renamed k (offer k x t) xs
+
 module _ (d : ℕ) (b : List Side) (c : List Float) (z : Tree d) where
   abbrev pub child : List (Tree d) → ℕ → Child (Tree d)
   child ts i = record { bounds = part b i; tree = getD ts i z }
 
-  abbrev far : ℕ → List (Tree d) → List Float
+  abbrev pub far : ℕ → List (Tree d) → List Float
   far n ts = map (λ (e : At (Child (Tree d))). e .dist) (children d b c n ts)
 
   numbered-children : (n : ℕ) (us ts : List (Tree d)) → length us ≡ n → map (renamed (child (us ++ ts))) (numbered n (far n ts)) ≡ children d b c n ts

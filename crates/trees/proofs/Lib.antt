@@ -1,2 +1,3 @@
 pub mod Collects
+pub mod Seeks
 pub mod Walks

@@ -1,0 +1,86 @@
+-- k nearest over places: what the search leaves in the table, that it is what the model leaves, and one more place or one more child at a time. Assumes nothing.
+use mathlib.Core.Path.{_≡_, refl, ap, ap₂, sym, _∙_, subst}
+use mathlib.Core.Logic.{_≢_}
+use mathlib.Core.Bool.{Bool, true, false, not, _&&_}
+use mathlib.Core.List.{List, [], _∷_, _++_, map}
+use Prim.Native.Nat.{ℕ, zero, suc, _+_, _*_, _-_, _<_, _≤_, min}
+use native.Mathlib.Numerals.{add-one, sub-one}
+use native.Mathlib.Omega.{arith}
+use lib.Dec.{T, ltb, ltb→lt, nltb→le}
+use lib.ListN.{length, getD, drop, length-map, List·getD-map, List·getD-eq-default}
+use lib.Ieee.{Float, lt}
+use Rattle.model.specs.Boxes.{Side, nodeDistance, part, squared}
+use Rattle.model.specs.Searches.{At, Child, Entry, children, entry, offer, offerEach, place, placeEach, worst}
+use Rattle.model.specs.Trees.{Point, Tree}
+use Rattle.model.proofs.Nearest.{over, seek, skips}
+use Rattle.knn.specs.Candidates.{at, InOrder, numbered}
+use Rattle.knn.proofs.Children.{child, children-order, far, offerEach-renamed, renamed, worst-renamed}
+use Rattle.pool.specs.Read.{chain}
+use Rattle.pool.specs.Trees.{leaf, branch, PTree, none, erase, placesAt}
+use Rattle.pool.specs.Worlds.{Rep}
+use Rattle.pool.specs.Writes.{kid}
+
+-- a place at its point's distance from the centre
+abbrev pub candidate : (ℕ → Point) → List Float → ℕ → At ℕ
+candidate pt c p = record { dist = squared (pt p .at) c; item = p }
+
+-- children in their order: "the rest are skipped once the table is full (k entries) and a node distance exceeds the worst kept"
+unfoldable pub overP : ℕ → (ℕ → List (At ℕ) → List (At ℕ)) → List (At ℕ) → List (At ℕ) → List (At ℕ)
+unfolding skips
+overP k go [] t = t
+overP k go (x ∷ xs) t = elim (not (ltb (length t) k) && worst (λ w. lt w (x .dist)) t) [ true ↦ t | false ↦ overP k go xs (go (x .item) t) ]
+
+-- the node distances of the first m children
+unfoldable pub nears : List Side → List Float → ℕ → ℕ → List Float
+nears b c i zero = []
+nears b c i (suc m) = nodeDistance (part b i) c ∷ nears b c (suc i) m
+
+unfoldable pub seekP : ℕ → (ℕ → Point) → List Float → (ways d : ℕ) → List Side → PTree d → List (At ℕ) → List (At ℕ)
+unfolding offerEach overP placeEach numbered nears
+seekP k pt c ways zero b l t = offerEach k t (map (candidate pt c) l)
+seekP k pt c ways (suc d) b (leaf l) t = offerEach k t (map (candidate pt c) l)
+seekP k pt c ways (suc d) b (branch g ts) t = overP k (λ i u. seekP k pt c ways d (part b i) (getD ts i (none d)) u) (placeEach [] (numbered 0 (nears b c 0 ways))) t
+
+by-lt {ℓ} : {C : Type ℓ} (m n : ℕ) → (m < n → C) → (n ≤ m → C) → C
+by-lt {C = C} m n f g = go (ltb m n) (ltb→lt m n) (nltb→le m n)
+  where
+    go : (b : Bool) → (T b → m < n) → (T (not b) → n ≤ m) → C
+    go true a b = f (a tt)
+    go false a b = g (b tt)
+
+-- ---- it is the model's search
+-- every divided node has all its children
+abbrev pub Full : (ways d : ℕ) → PTree d → Type 0
+Full ways zero l = Unit {0}
+Full ways (suc d) (leaf l) = Unit {0}
+Full ways (suc d) (branch g ts) = (length ts ≡ ways) × ((i : ℕ) → Full ways d (getD ts i (none d)))
+
+none-full : (ways d : ℕ) → Full ways d (none d)
+none-full ways zero = tt
+none-full ways (suc d) = tt
+
+pub rep-full : (ways d : ℕ) (n x : List ℕ) (i : ℕ) (t : PTree d) → Rep d ways n x i t → Full ways d t
+rep-full ways zero n x i l r = tt
+rep-full ways (suc d) n x i (leaf l) r = tt
+rep-full ways (suc d) n x i (branch g ts) r = (r .4, λ c. by-lt c ways (λ lc. rep-full ways d n x (kid ways g c) (getD ts c (none d)) (r .5 c lc))
+    (λ h. subst (Full ways d) (sym (List·getD-eq-default ts (none d) {n = c} (omega (arith, h, r .4)))) (none-full ways d)))
+
+far-nears : (d : ℕ) (b : List Side) (c : List Float) (z : Tree d) (i : ℕ) (ts : List (Tree d)) → far d b c z i ts ≡ nears b c i (length ts)
+unfolding children nears
+far-nears d b c z i [] = refl
+far-nears d b c z i (t ∷ ts) = ap {B = List Float} (λ l. nodeDistance (part b i) c ∷ l) (far-nears d b c z (suc i) ts)
+
+module _ (pt : ℕ → Point) (k : ℕ) (c : List Float) where
+  over-erase : (d : ℕ) (b : List Side) (f : ℕ → Child (Tree d)) (go : ℕ → List (At ℕ) → List (At ℕ)) (es T : List (At ℕ))
+      → ((i : ℕ) (u : List (At ℕ)) → map (renamed pt) (go i u) ≡ seek k c d (f i .bounds) (f i .tree) (map (renamed pt) u))
+      → map (renamed pt) (overP k go es T) ≡ over k (λ n u. seek k c d n u) (map (renamed f) es) (map (renamed pt) T)
+  unfolding overP over skips
+  over-erase d b f go [] T ih = refl
+  over-erase d b f go (x ∷ xs) T ih =
+      ?
+
+  pub seek-erase : (ways d : ℕ) (b : List Side) (t : PTree d) (T : List (At ℕ)) → Full ways d t → map (renamed pt) (seekP k pt c ways d b t T) ≡ seek k c d b (erase pt d t) (map (renamed pt) T)
+  unfolding seekP seek erase
+  seek-erase ways zero b l T f = ?
+  seek-erase ways (suc d) b (leaf l) T f = ?
+  seek-erase ways (suc d) b (branch g ts) T f = ?
