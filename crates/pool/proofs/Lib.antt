@@ -4,4 +4,8 @@ pub mod Trees
 pub mod Frames
 pub mod Leaves
 pub mod Worlds
+pub mod Clears
+pub mod Deals
+pub mod Joins
 pub mod Steps
+pub mod Walks
