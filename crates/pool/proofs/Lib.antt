@@ -4,4 +4,11 @@ pub mod Trees
 pub mod Frames
 pub mod Leaves
 pub mod Worlds
+pub mod Clears
+pub mod Deals
+pub mod Joins
 pub mod Steps
+pub mod Walks
+pub mod Down
+pub mod Read
+pub mod Erase

@@ -1,17 +1,27 @@
 -- Laws of occurrences and sums. Assumes nothing.
 use mathlib.Core.Path.{_≡_, refl, ap, sym, _∙_}
 use mathlib.Core.Logic.{_≢_}
+use mathlib.Core.Bool.{Bool, true, false}
 use mathlib.Core.List.{List, [], _∷_, _++_}
 use Prim.Native.Nat.{ℕ, zero, suc, _+_, _-_, _*_, _<_, _≤_}
 use native.Mathlib.Omega.{arith}
 use native.Mathlib.Decide.{ℕ-discrete}
-use borrow.Author.Tests.{eq-eqb, ne-eqb}
+use lib.Dec.{ltb}
+use borrow.Author.Tests.{eq-eqb, ne-eqb, ltb-true, ltb-false}
 use lib.ListN.{length, getD, set, replicate}
 use Rattle.pool.specs.Lists.{ifz, is, occ, sumOf}
 
 -- by cases on whether two numbers are equal
 pub by-eq {ℓ} : {C : Type ℓ} (m n : ℕ) → (m ≡ n → C) → (m ≢ n → C) → C
 by-eq m n f g = elim (ℕ-discrete m n) [ yes e ↦ f e | no e ↦ g e ]
+
+-- by cases on which is less
+pub by-lt {ℓ} : {C : Type ℓ} (m n : ℕ) → (m < n → C) → (n ≤ m → C) → C
+by-lt {C = C} m n f g = go (ltb m n) (ltb-true m n) (ltb-false m n)
+  where
+    go : (b : Bool) → (b ≡ true → m < n) → (b ≡ false → n ≤ m) → C
+    go true a b = f (a refl)
+    go false a b = g (b refl)
 
 pub pos : (n : ℕ) → n ≢ 0 → 1 ≤ n
 pos n z = omega arith

@@ -124,24 +124,38 @@ pop-world d ways n x i t fl p fp w =
     v : ℕ
     v = getD x (getD x 0 0) 0
 
-pub push-world : (x : List ℕ) (p : ℕ) → GivesPlace x (pushed x p) p
-unfolding GivesPlace pushed
-push-world x p d ways n i t fl fp w nz lt o =
-    relink d ways n x (pushed x p) i t fl fp (p ∷ fp) (length-set x1 0 p ∙ length-set x p h)
-    (λ q z. getD-set-other x1 0 q p 0 (λ e. z (ap (λ u. placesAt d u t) e ∙ no-place-zero d ways n x i t (w .rep))) ∙ getD-set-other x p q h 0 (λ e. z (ap (λ u. placesAt d u t) e ∙ omega (arith, o)))) (
-      getD-set-same x1 0 p 0 (lt-length-set x p h (omega (arith, lt))),
-      nz,
-      lt-length-set x1 0 p (lt-length-set x p h lt),
-      subst (λ a. Chain (set x1 0 p) a fp) (sym (getD-set-other x1 0 p p 0 nz ∙ getD-set-same x p h 0 lt))
-          (chain-set fp x1 h 0 p (no-zero fp x h (w .spare)) (chain-set fp x h p h (omega (arith, o)) (w .spare))),
-    )
-    (λ q. by-eq q p (λ e. omega (arith, is-eq q p e, ap (λ u. placesAt d u t + occ u fp) e ∙ o)) (λ e. omega (arith, is-other q p e, w .places q))) w
+-- a place comes to the front of a chain that begins at word 0
+pub push-chain : (x : List ℕ) (p : ℕ) (fp : List ℕ) → Chain x (getD x 0 0) fp → p ≢ 0 → p < length x → occ p fp ≡ 0 → Chain (pushed x p) (getD (pushed x p) 0 0) (p ∷ fp)
+unfolding pushed
+push-chain x p fp c nz lt o = (
+  getD-set-same x1 0 p 0 (lt-length-set x p h (omega (arith, lt))),
+  nz,
+  lt-length-set x1 0 p (lt-length-set x p h lt),
+  subst (λ a. Chain (set x1 0 p) a fp) (sym (getD-set-other x1 0 p p 0 nz ∙ getD-set-same x p h 0 lt)) (chain-set fp x1 h 0 p (no-zero fp x h c) (chain-set fp x h p h o c)),
+)
   where
     h : ℕ
     h = getD x 0 0
 
     x1 : List ℕ
     x1 = set x p (getD x 0 0)
+
+pub pushed-length : (x : List ℕ) (p : ℕ) → length (pushed x p) ≡ length x
+unfolding pushed
+pushed-length x p = length-set (set x p (getD x 0 0)) 0 p ∙ length-set x p (getD x 0 0)
+
+pushed-other : (x : List ℕ) (p q : ℕ) → q ≢ 0 → q ≢ p → getD (pushed x p) q 0 ≡ getD x q 0
+unfolding pushed
+pushed-other x p q a b = getD-set-other (set x p (getD x 0 0)) 0 q p 0 a ∙ getD-set-other x p q (getD x 0 0) 0 b
+
+pub push-world : (x : List ℕ) (p : ℕ) → GivesPlace x (pushed x p) p
+unfolding GivesPlace
+push-world x p d ways n i t fl fp w nz lt o =
+    relink d ways n x (pushed x p) i t fl fp (p ∷ fp) (pushed-length x p) (λ q z. kept q z) (push-chain x p fp (w .spare) nz lt (omega (arith, o)))
+    (λ q. by-eq q p (λ e. omega (arith, is-eq q p e, ap (λ u. placesAt d u t + occ u fp) e ∙ o)) (λ e. omega (arith, is-other q p e, w .places q))) w
+  where
+    kept : (q : ℕ) → placesAt d q t ≢ 0 → getD (pushed x p) q 0 ≡ getD x q 0
+    kept q z = pushed-other x p q (λ e. z (ap (λ u. placesAt d u t) e ∙ no-place-zero d ways n x i t (w .rep))) (λ e. z (ap (λ u. placesAt d u t) e ∙ omega (arith, o)))
 
 pub take-place-world : (x : List ℕ) → TakesPlace x (popped x) (getD x 0 0)
 unfolding TakesPlace popped
@@ -182,19 +196,25 @@ take-world d ways n x i t g fl fp lw w =
     header : (q : ℕ) → q ≢ 0 → Same (set n 0 v) n q
     header q nz = same-set n 0 v q (λ e. nz (omega arith))
 
-pub give-world : (ways : ℕ) (n : List ℕ) (k : ℕ) → GivesGroup ways n (given ways n k) k
-unfolding GivesGroup given
-give-world ways n k d x i t fl fp lw w nz room o far =
-    regroup d ways n (given ways n k) x i t fl (k ∷ fl) fp len (other i (w .low) (far 0 lw))
-    (λ g c lc z. other (kid ways g c) (nonzero g c (λ e. z (omega (arith, e)))) (λ e. z (ap (λ u. groupsAt d u t) (kid-inj ways g k c 0 lc lw e) ∙ omega (arith, o)))) (
-      getD-set-same n1 0 k 0 (lt-length-set n (4 * kid ways k 0) h (omega (arith, room, kid-low ways k ways lw nz))),
-      nz,
-      omega (arith, room, len),
-      subst (λ a. Free ways (set n1 0 k) a fl) (sym (getD-set-other n1 0 (4 * kid ways k 0) k 0 (λ e. absurd (omega (arith, e, kid-low ways k 0 lw nz))) ∙ getD-set-same n (4 * kid ways k 0) h 0 (omega (arith, room, lw))))
-          (free-agree ways n (set n1 0 k) h fl len (λ g z. other (kid ways g 0) (nonzero g 0 (λ e. z (omega (arith, e)))) (λ e. z (ap (λ u. occ u fl) (kid-inj ways g k 0 0 lw lw e) ∙ omega (arith, o))) .group) (w .free)),
-    )
-    (λ g. by-eq g k (λ e. omega (arith, is-eq g k e, ap (λ u. groupsAt d u t + occ u fl) e ∙ o)) (λ e. omega (arith, is-other g k e, w .groups g)))
-    (λ g c lc e. omega (arith, w .apart g c lc e, is-other g k (λ z. far c lc (e ∙ ap (λ u. kid ways u c) z)))) w
+pub given-length : (ways : ℕ) (n : List ℕ) (k : ℕ) → length (given ways n k) ≡ length n
+unfolding given
+given-length ways n k = length-set (set n (4 * kid ways k 0) (getD n 0 0)) 0 k ∙ length-set n (4 * kid ways k 0) (getD n 0 0)
+
+pub given-same : (ways : ℕ) (n : List ℕ) (k q : ℕ) → q ≢ 0 → q ≢ kid ways k 0 → Same (given ways n k) n q
+unfolding given
+given-same ways n k q a b = same-then (same-set (set n (4 * kid ways k 0) (getD n 0 0)) 0 k q (λ e. a (omega arith))) (same-set n (4 * kid ways k 0) (getD n 0 0) q (λ e. b (omega arith)))
+
+-- a group comes to the front of the free ones
+pub give-free : (ways : ℕ) (n : List ℕ) (k : ℕ) (fl : List ℕ) → 0 < ways → Free ways n (getD n 0 0) fl → k ≢ 0 → 4 * kid ways k ways ≤ length n → occ k fl ≡ 0
+    → Free ways (given ways n k) (getD (given ways n k) 0 0) (k ∷ fl)
+unfolding given
+give-free ways n k fl lw f nz room o = (
+  getD-set-same n1 0 k 0 (lt-length-set n (4 * kid ways k 0) h (omega (arith, room, kid-low ways k ways lw nz))),
+  nz,
+  omega (arith, room, given-length ways n k),
+  subst (λ a. Free ways (set n1 0 k) a fl) (sym (getD-set-other n1 0 (4 * kid ways k 0) k 0 (λ e. absurd (omega (arith, e, kid-low ways k 0 lw nz))) ∙ getD-set-same n (4 * kid ways k 0) h 0 (omega (arith, room, lw))))
+      (free-agree ways n (set n1 0 k) h fl (given-length ways n k) (λ g z. given-same ways n k (kid ways g 0) (nonzero g z) (λ e. z (ap (λ u. occ u fl) (kid-inj ways g k 0 0 lw lw e) ∙ o)) .group) f),
+)
   where
     h : ℕ
     h = getD n 0 0
@@ -202,14 +222,17 @@ give-world ways n k d x i t fl fp lw w nz room o far =
     n1 : List ℕ
     n1 = set n (4 * kid ways k 0) (getD n 0 0)
 
-    len : length (set n1 0 k) ≡ length n
-    len = length-set n1 0 k ∙ length-set n (4 * kid ways k 0) h
+    nonzero : (g : ℕ) → occ g fl ≢ 0 → kid ways g 0 ≢ 0
+    nonzero g z e = absurd (omega (arith, e, kid-low ways g 0 lw (λ v. z (ap (λ u. occ u fl) v ∙ no-free-zero ways n h fl f))))
 
-    other : (q : ℕ) → q ≢ 0 → q ≢ kid ways k 0 → Same (set n1 0 k) n q
-    other q a b = same-then (same-set n1 0 k q (λ e. a (omega arith))) (same-set n (4 * kid ways k 0) h q (λ e. b (omega arith)))
-
-    nonzero : (g c : ℕ) → groupsAt d g t + occ g fl ≢ 0 → kid ways g c ≢ 0
-    nonzero g c z = kid-nonzero d ways (both n x) i t fl fp g c lw w z
+pub give-world : (ways : ℕ) (n : List ℕ) (k : ℕ) → GivesGroup ways n (given ways n k) k
+unfolding GivesGroup
+give-world ways n k d x i t fl fp lw w nz room o far =
+    regroup d ways n (given ways n k) x i t fl (k ∷ fl) fp (given-length ways n k) (given-same ways n k i (w .low) (far 0 lw))
+    (λ g c lc z. given-same ways n k (kid ways g c) (kid-nonzero d ways (both n x) i t fl fp g c lw w (λ e. z (omega (arith, e)))) (λ e. z (ap (λ u. groupsAt d u t) (kid-inj ways g k c 0 lc lw e) ∙ omega (arith, o))))
+    (give-free ways n k fl lw (w .free) nz room (omega (arith, o)))
+    (λ g. by-eq g k (λ e. omega (arith, is-eq g k e, ap (λ u. groupsAt d u t + occ u fl) e ∙ o)) (λ e. omega (arith, is-other g k e, w .groups g)))
+    (λ g c lc e. omega (arith, w .apart g c lc e, is-other g k (λ z. far c lc (e ∙ ap (λ u. kid ways u c) z)))) w
 
 pub take-group-world : (ways : ℕ) (n : List ℕ) → TakesGroup ways n (taken ways n) (getD n 0 0)
 unfolding TakesGroup taken
