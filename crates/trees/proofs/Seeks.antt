@@ -6,7 +6,7 @@ use mathlib.Core.List.{List, [], _∷_, _++_, map}
 use Prim.Native.Nat.{ℕ, zero, suc, _+_, _*_, _-_, _<_, _≤_, min}
 use native.Mathlib.Numerals.{add-one, sub-one}
 use native.Mathlib.Omega.{arith}
-use lib.Dec.{T, ltb, ltb→lt, nltb→le}
+use lib.Dec.{T, ltb}
 use lib.ListN.{length, getD, drop, length-map, List·getD-map, List·getD-eq-default}
 use lib.Ieee.{Float, lt}
 use Rattle.model.specs.Boxes.{Side, nodeDistance, part, squared}
@@ -19,6 +19,7 @@ use Rattle.pool.specs.Read.{chain}
 use Rattle.pool.specs.Trees.{leaf, branch, PTree, none, erase, placesAt}
 use Rattle.pool.specs.Worlds.{Rep}
 use Rattle.pool.specs.Writes.{kid}
+use Rattle.pool.proofs.Lists.{by-lt}
 
 -- a place at its point's distance from the centre
 abbrev pub candidate : (ℕ → Point) → List Float → ℕ → At ℕ
@@ -40,13 +41,6 @@ unfolding offerEach overP placeEach numbered nears
 seekP k pt c ways zero b l t = offerEach k t (map (candidate pt c) l)
 seekP k pt c ways (suc d) b (leaf l) t = offerEach k t (map (candidate pt c) l)
 seekP k pt c ways (suc d) b (branch g ts) t = overP k (λ i u. seekP k pt c ways d (part b i) (getD ts i (none d)) u) (placeEach [] (numbered 0 (nears b c 0 ways))) t
-
-by-lt {ℓ} : {C : Type ℓ} (m n : ℕ) → (m < n → C) → (n ≤ m → C) → C
-by-lt {C = C} m n f g = go (ltb m n) (ltb→lt m n) (nltb→le m n)
-  where
-    go : (b : Bool) → (T b → m < n) → (T (not b) → n ≤ m) → C
-    go true a b = f (a tt)
-    go false a b = g (b tt)
 
 -- ---- it is the model's search
 -- every divided node has all its children
@@ -77,10 +71,34 @@ module _ (pt : ℕ → Point) (k : ℕ) (c : List Float) where
   unfolding overP over skips
   over-erase d b f go [] T ih = refl
   over-erase d b f go (x ∷ xs) T ih =
-      ?
+      by (not (ltb (length T) k) && worst (λ w. lt w (x .dist)) T) (overP k go xs (go (x .item) T))
+      (over-erase d b f go xs (go (x .item) T) ih ∙ ap (over k (λ n u. seek k c d n u) (map (renamed f) xs)) (ih (x .item) T))
+      ∙ ap₂ (λ (m : ℕ) (w : Bool). elim (not (ltb m k) && w) as (λ u. List Entry) [ true ↦ map (renamed pt) T | false ↦ over k (λ n u. seek k c d n u) (map (renamed f) xs) (seek k c d (f (x .item) .bounds) (f (x .item) .tree) (map (renamed pt) T)) ])
+      (sym (length-map T (renamed pt))) (sym (worst-renamed pt (λ w. lt w (x .dist)) T))
+    where
+      by : (s : Bool) (l : List (At ℕ)) {m : List Entry} → map (renamed pt) l ≡ m → map (renamed pt) (elim s as (λ u. List (At ℕ)) [ true ↦ T | false ↦ l ]) ≡ elim s as (λ u. List Entry) [ true ↦ map (renamed pt) T | false ↦ m ]
+      by true l e = refl
+      by false l e = e
+
+  list-erase : (l : List ℕ) (T : List (At ℕ)) → map (renamed pt) (offerEach k T (map (candidate pt c) l)) ≡ offerEach k (map (renamed pt) T) (map (entry c) (map pt l))
+  unfolding entry
+  list-erase l T = sym (offerEach-renamed pt k T (map (candidate pt c) l)) ∙ ap (offerEach k (map (renamed pt) T)) (same l)
+    where
+      same : (l : List ℕ) → map (renamed pt) (map (candidate pt c) l) ≡ map (entry c) (map pt l)
+      same [] = refl
+      same (p ∷ l) = ap {B = List Entry} (λ u. record { dist = squared (pt p .at) c; item = pt p } ∷ u) (same l)
 
   pub seek-erase : (ways d : ℕ) (b : List Side) (t : PTree d) (T : List (At ℕ)) → Full ways d t → map (renamed pt) (seekP k pt c ways d b t T) ≡ seek k c d b (erase pt d t) (map (renamed pt) T)
   unfolding seekP seek erase
-  seek-erase ways zero b l T f = ?
-  seek-erase ways (suc d) b (leaf l) T f = ?
-  seek-erase ways (suc d) b (branch g ts) T f = ?
+  seek-erase ways zero b l T f = list-erase l T
+  seek-erase ways (suc d) b (leaf l) T f = list-erase l T
+  seek-erase ways (suc d) b (branch g ts) T f =
+      over-erase d b (child d b c z us) _ (placeEach [] (numbered 0 (nears b c 0 ways))) T
+        (λ i u. seek-erase ways d (part b i) (getD ts i (none d)) u (f .1 i) ∙ ap (λ (v : Tree d). seek k c d (part b i) v (map (renamed pt) u)) (sym (List·getD-map (erase pt d) ts i (none d))))
+      ∙ ap (λ (es : List (At (Child (Tree d)))). over k (λ n u. seek k c d n u) es (map (renamed pt) T))
+        (ap (λ (ns : List Float). map (renamed (child d b c z us)) (placeEach [] (numbered 0 ns))) (ap (nears b c 0) (sym (length-map ts (erase pt d) ∙ f .0)) ∙ sym (far-nears d b c z 0 us)) ∙ children-order d b c z us)
+    where
+      us : List (Tree d)
+      us = map (erase pt d) ts
+      z : Tree d
+      z = erase pt d (none d)
