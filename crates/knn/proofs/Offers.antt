@@ -26,7 +26,7 @@ entries-clip (suc n) (d ∷ ds) (p ∷ ps) =
     ap {B = List (At ℕ)} (λ l. at d p ∷ l) (entries-clip n ds ps)
     ∙ ap (λ (m : ℕ). entries m (d ∷ ds) (p ∷ ps)) {x = suc (min n (min (length ds) (length ps)))} {y = min (suc n) (min (suc (length ds)) (suc (length ps)))} (omega arith)
 
-entries-full : (n : ℕ) (ds : List Float) (ps : List ℕ) → n ≤ length ds → n ≤ length ps → length (entries n ds ps) ≡ n
+pub entries-full : (n : ℕ) (ds : List Float) (ps : List ℕ) → n ≤ length ds → n ≤ length ps → length (entries n ds ps) ≡ n
 entries-full n ds ps h k = entries-length n ds ps ∙ omega arith
 
 entries-drop : (n : ℕ) (ds : List Float) (ps : List ℕ) → n < length ds → n < length ps → dropLast (entries (suc n) ds ps) ≡ entries n ds ps
@@ -38,7 +38,7 @@ entries-drop (suc n) (d ∷ []) (p ∷ ps) h k = absurd (omega arith)
 entries-drop (suc n) (d ∷ e ∷ ds) (p ∷ []) h k = absurd (omega arith)
 entries-drop (suc n) (d ∷ e ∷ ds) (p ∷ q ∷ ps) h k = ap {B = List (At ℕ)} (λ l. at d p ∷ l) (entries-drop n (e ∷ ds) (q ∷ ps) (omega arith) (omega arith))
 
-entries-worst : (f : Float → Bool) (n : ℕ) (ds : List Float) (ps : List ℕ) → n < length ds → n < length ps → worst f (entries (suc n) ds ps) ≡ f (getD ds n nan)
+pub entries-worst : (f : Float → Bool) (n : ℕ) (ds : List Float) (ps : List ℕ) → n < length ds → n < length ps → worst f (entries (suc n) ds ps) ≡ f (getD ds n nan)
 unfolding zipWith worst
 entries-worst f n [] ps h k = absurd (omega arith)
 entries-worst f n (d ∷ ds) [] h k = absurd (omega arith)

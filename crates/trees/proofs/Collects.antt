@@ -38,6 +38,18 @@ pub noting-end : (whole out : List ℕ) (n : ℕ) (now : List ℕ) (m : ℕ) →
 unfolding Noting
 noting-end whole out n now m w = w now m refl (notes-none now m)
 
+-- ---- a chain, one place at a time
+pub chain-stop : (left : ℕ) (x : List ℕ) (q : ℕ) → q ≡ 0 → chain left x q ≡ []
+unfolding chain
+chain-stop zero x q e = refl
+chain-stop (suc left) x q e = ap (chain (suc left) x) e
+
+pub chain-step : (left : ℕ) (x : List ℕ) (q : ℕ) → 0 < left → q ≢ 0 → chain left x q ≡ q ∷ chain (left - 1) x (getD x q 0)
+unfolding chain
+chain-step zero x q h z = absurd (omega arith)
+chain-step (suc left) x zero h z = absurd (z refl)
+chain-step (suc left) x (suc q) h z = ap (λ (j : ℕ). suc q ∷ chain j x (getD x (suc q) 0)) (sym (sub-one (suc left)))
+
 -- the places of a chain that pass the test
 unfoldable pub passing : (ℕ → Bool) → ℕ → List ℕ → ℕ → List ℕ
 unfolding keep chain
@@ -48,17 +60,14 @@ unfolding passing keep chain
 passing-none f x q = refl
 
 pub passing-stop : (f : ℕ → Bool) (left : ℕ) (x : List ℕ) (q : ℕ) → q ≡ 0 → passing f left x q ≡ []
-unfolding passing keep chain
-passing-stop f zero x q e = refl
-passing-stop f (suc left) x q e = ap (λ (p : ℕ). keep f (chain (suc left) x p)) e
+unfolding passing keep
+passing-stop f left x q e = ap (keep f) (chain-stop left x q e)
 
 pub passing-step : (f : ℕ → Bool) (left : ℕ) (x : List ℕ) (q : ℕ) → 0 < left → q ≢ 0 → passing f left x q ≡ cond (f q) (q ∷ []) [] ++ passing f (left - 1) x (getD x q 0)
-unfolding passing keep chain
-passing-step f zero x q h z = absurd (omega arith)
-passing-step f (suc left) x zero h z = absurd (z refl)
-passing-step f (suc left) x (suc q) h z = by (f (suc q)) ∙ ap (λ (j : ℕ). cond (f (suc q)) (suc q ∷ []) [] ++ keep f (chain j x (getD x (suc q) 0))) (sym (sub-one (suc left)))
+unfolding passing keep
+passing-step f left x q h z = ap (keep f) (chain-step left x q h z) ∙ by (f q)
   where
-    by : (t : Bool) → elim t as (λ u. List ℕ) [ true ↦ suc q ∷ keep f (chain left x (getD x (suc q) 0)) | false ↦ keep f (chain left x (getD x (suc q) 0)) ] ≡ cond t (suc q ∷ []) [] ++ keep f (chain left x (getD x (suc q) 0))
+    by : (t : Bool) → elim t as (λ u. List ℕ) [ true ↦ q ∷ keep f (chain (left - 1) x (getD x q 0)) | false ↦ keep f (chain (left - 1) x (getD x q 0)) ] ≡ cond t (q ∷ []) [] ++ keep f (chain (left - 1) x (getD x q 0))
     by true = refl
     by false = refl
 
@@ -94,6 +103,9 @@ chain-is (p ∷ l) x zero h c le = absurd (omega arith)
 chain-is (zero ∷ l) x (suc f) h c le = absurd (c .1 refl)
 chain-is (suc p ∷ l) x (suc f) h c le = ap (chain (suc f) x) (c .0) ∙ ap (λ (m : List ℕ). suc p ∷ m) (chain-is l x f (getD x (suc p) 0) (c .3) (omega arith))
 
+pub list-chain : (n x : List ℕ) (i : ℕ) (l : List ℕ) → RepLeaf n x i l → ((p : ℕ) → occ p l ≤ 1) → chain (length x) x (getD n (4 * i + 1) 0) ≡ l
+list-chain n x i l r u = chain-is l x (length x) (getD n (4 * i + 1) 0) (r .2) (chain-short l x (getD n (4 * i + 1) 0) (r .2) u)
+
 -- what a test said, where the code asks for its contrary
 pub said-no : (a b : Bool) → a ≡ b → not a ≡ true → b ≡ false
 said-no true b e h = absurd (subst T (sym h) tt)
@@ -109,6 +121,18 @@ shut t l e = ap (λ (u : Bool). elim u as (λ u. List ℕ) [ true ↦ l | false 
 opened : (t : Bool) (l : List ℕ) → t ≡ true → elim t as (λ u. List ℕ) [ true ↦ l | false ↦ [] ] ≡ l
 opened t l e = ap (λ (u : Bool). elim u as (λ u. List ℕ) [ true ↦ l | false ↦ [] ]) e
 
+-- the children of a divided node in words
+pub record Kids (ways : ℕ) (n x : List ℕ) (d : ℕ) (k : ℕ) (ts : List (PTree d)) : Type 0 where
+  pub all : length ts ≡ ways
+  pub each : (c : ℕ) → c < ways → Rep d ways n x (kid ways k c) (getD ts c (none d))
+  pub once : (p : ℕ) → sumOf (placesAt d p) ts ≤ 1
+
+pub kids-of : (ways : ℕ) (n x : List ℕ) (d i k g : ℕ) (ts : List (PTree d)) → Rep (suc d) ways n x i (branch g ts) → ((p : ℕ) → placesAt (suc d) p (branch g ts) ≤ 1) → k ≡ getD n (4 * i) 0 → Kids ways n x d k ts
+kids-of ways n x d i k g ts r u ek = record { all = r .4; each = λ c lc. subst (λ (h : ℕ). Rep d ways n x (kid ways h c) (getD ts c (none d))) (sym (r .1) ∙ sym ek) (r .5 c lc); once = u }
+
+pub kid-once : (ways : ℕ) (n x : List ℕ) (d k : ℕ) (ts : List (PTree d)) → Kids ways n x d k ts → (c : ℕ) → c < ways → (p : ℕ) → placesAt d p (getD ts c (none d)) ≤ 1
+kid-once ways n x d k ts z c lc p = omega (arith, z .once p, sum-at (placesAt d p) ts c (none d) (omega (arith, lc, z .all)))
+
 -- ---- one tree
 module _ (go : List Side → Bool) (f : ℕ → Bool) (ways : ℕ) (n x : List ℕ) where
   unfoldable pub Collects : (d : ℕ) → List Side → ℕ → (out : List ℕ) (m : ℕ) (out' : List ℕ) (r : ℕ) → Type 0
@@ -122,7 +146,7 @@ module _ (go : List Side → Bool) (f : ℕ → Bool) (ways : ℕ) (n x : List �
 
   list-is : (i : ℕ) (l : List ℕ) → RepLeaf n x i l → ((p : ℕ) → occ p l ≤ 1) → passing f (length x) x (getD n (4 * i + 1) 0) ≡ keep f l
   unfolding passing
-  list-is i l r u = ap (keep f) (chain-is l x (length x) (getD n (4 * i + 1) 0) (r .2) (chain-short l x (getD n (4 * i + 1) 0) (r .2) u))
+  list-is i l r u = ap (keep f) (list-chain n x i l r u)
 
   pub collects-list : (d : ℕ) (b : List Side) (i k h : ℕ) (out : List ℕ) (m : ℕ) (out' : List ℕ) (r : ℕ) → go b ≡ true → k ≡ getD n (4 * i) 0 → k ≡ 0 → h ≡ getD n (4 * i + 1) 0
       → Notes (passing f (length x) x h) out m out' r → Collects d b i out m out' r
@@ -137,17 +161,12 @@ module _ (go : List Side → Bool) (f : ℕ → Bool) (ways : ℕ) (n x : List �
   collects-none (suc d) b i k out m ek z e t r u = absurd (omega arith)
 
   -- ---- its children, from number c on
-  pub record Kids (d : ℕ) (k : ℕ) (ts : List (PTree d)) : Type 0 where
-    pub all : length ts ≡ ways
-    pub each : (c : ℕ) → c < ways → Rep d ways n x (kid ways k c) (getD ts c (none d))
-    pub once : (p : ℕ) → sumOf (placesAt d p) ts ≤ 1
-
   abbrev row : (d : ℕ) → List Side → ℕ → List (PTree d) → List ℕ
   row d b c ts = flatten (mapi (λ i t. places go f d (part b i) t) c ts)
 
   unfoldable pub Rows : (d : ℕ) → List Side → ℕ → (out : List ℕ) (m : ℕ) (c : ℕ) (now : List ℕ) (m' : ℕ) → Type 0
   unfolding mapi flatten
-  Rows d b k out m c now m' = (ts : List (PTree d)) → Kids d k ts → Noting (row d b 0 ts) out m (row d b c (drop c ts)) now m'
+  Rows d b k out m c now m' = (ts : List (PTree d)) → Kids ways n x d k ts → Noting (row d b 0 ts) out m (row d b c (drop c ts)) now m'
 
   pub rows-start : (d : ℕ) (b : List Side) (k : ℕ) (out : List ℕ) (m : ℕ) → Rows d b k out m 0 out m
   unfolding Rows
@@ -161,7 +180,7 @@ module _ (go : List Side → Bool) (f : ℕ → Bool) (ways : ℕ) (n x : List �
       (noting-step (row d b 0 ts) out m (places go f d (part b c) (getD ts c (none d))) (row d b (suc c) (drop (suc c) ts)) now m' now' m'' e
       (subst (λ (us : List (PTree d)). Noting (row d b 0 ts) out m (row d b c us) now m') (drop-cons ts c (none d) (omega (arith, lc, z .all))) (w ts z))
       (subst (λ (v : List Side). Notes (places go f d v (getD ts c (none d))) now m' now' m'') eb
-      (q (getD ts c (none d)) (subst (λ (v : ℕ). Rep d ways n x v (getD ts c (none d))) (sym ej) (z .each c lc)) (λ p. omega (arith, z .once p, sum-at (placesAt d p) ts c (none d) (omega (arith, lc, z .all)))))))
+      (q (getD ts c (none d)) (subst (λ (v : ℕ). Rep d ways n x v (getD ts c (none d))) (sym ej) (z .each c lc)) (kid-once ways n x d k ts z c lc))))
 
   pub rows-end : (d : ℕ) (b : List Side) (i k : ℕ) (out : List ℕ) (m c : ℕ) (now : List ℕ) (m' : ℕ) → go b ≡ true → k ≡ getD n (4 * i) 0 → d ≢ 0 → Rows (d - 1) b k out m c now m' → ways ≤ c → k ≢ 0 → Collects d b i out m now m'
   unfolding Rows Collects places mapi flatten
@@ -170,5 +189,5 @@ module _ (go : List Side → Bool) (f : ℕ → Bool) (ways : ℕ) (n x : List �
   rows-end (suc d) b i k out m c now m' e ek z w h nz (branch g ts) r u =
       subst (λ (l : List ℕ). Notes l out m now m') (sym (opened (go b) _ e))
       (noting-end (row d b 0 ts) out m now m' (subst (λ (us : List (PTree d)). Noting (row d b 0 ts) out m (row d b c us) now m') (drop-of-length-le ts {i = c} (omega (arith, h, r .4)))
-      (subst (λ (v : ℕ). (us : List (PTree v)) → Kids v k us → Noting (row v b 0 us) out m (row v b c (drop c us)) now m') (sub-one (suc d)) w ts
-      (record { all = r .4; each = λ c lc. subst (λ (g : ℕ). Rep d ways n x (kid ways g c) (getD ts c (none d))) (sym (r .1) ∙ sym ek) (r .5 c lc); once = u }))))
+      (subst (λ (v : ℕ). (us : List (PTree v)) → Kids ways n x v k us → Noting (row v b 0 us) out m (row v b c (drop c us)) now m') (sub-one (suc d)) w ts
+      (kids-of ways n x d i k g ts r u ek))))

@@ -1,3 +1,4 @@
 pub mod Collects
 pub mod Seeks
+pub mod Tables
 pub mod Walks
