@@ -1,3 +1,4 @@
 // The quadtree: quadtree.rs, over places in lent pieces.
+pub mod nearest;
 pub mod place;
 pub mod search;

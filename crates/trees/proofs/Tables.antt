@@ -2,20 +2,25 @@
 use mathlib.Core.Path.{_≡_, refl, ap, ap₂, sym, _∙_, subst}
 use mathlib.Core.Logic.{_≢_}
 use mathlib.Core.Bool.{Bool, true, false, not, _&&_}
-use mathlib.Core.List.{List, [], _∷_, _++_, map}
-use Prim.Native.Nat.{ℕ, zero, suc, _+_, _*_, _-_, _<_, _≤_, min}
+use mathlib.Core.List.{List, [], _∷_, _++_, map, append-nil}
+use Prim.Native.Nat.{ℕ, zero, suc, _+_, _*_, _-_, _%_, _<_, _≤_, min}
+use native.Mathlib.Nat.{mod-eq-of-lt}
 use native.Mathlib.Numerals.{add-one, sub-one}
 use native.Mathlib.Omega.{arith}
 use lib.Dec.{T, ltb}
-use lib.ListN.{length, getD, take, drop, drop-of-length-le}
-use lib.Seq.{drop-cons}
+use lib.ListN.{length, getD, take, drop, drop-of-length-le, length-map}
+use lib.Seq.{drop-cons, sets, take-all}
 use lib.Ieee.{Float, lt, inf, fin, nan}
 use borrow.Author.Tests.{lt-ltb, le-ltb}
 use Rattle.model.specs.Boxes.{Side, nodeDistance, part, squared}
-use Rattle.model.specs.Searches.{At, offer, offerEach, placeEach, worst}
+use Rattle.model.specs.Searches.{At, offer, offerEach, place, placeEach, worst}
+use Rattle.model.specs.Soundness.{All}
 use Rattle.model.specs.Trees.{Point}
-use Rattle.knn.specs.Candidates.{at, bar, entries, lastOr, room, InOrder, ByModel, numbered}
+use Rattle.model.proofs.Nearest.{placeEach-all}
+use Rattle.knn.specs.Candidates.{at, bar, dists, entries, items, lastOr, room, InOrder, ByModel, Written, numbered, ordered}
+use Rattle.knn.proofs.Arrays.{sets-front}
 use Rattle.knn.proofs.Bar.{skip-is}
+use Rattle.knn.proofs.Order.{place-length}
 use Rattle.pool.specs.Lists.{occ, sumOf, Chain}
 use Rattle.pool.specs.Read.{chain}
 use Rattle.pool.specs.Trees.{leaf, branch, PTree, none, placesAt}
@@ -155,3 +160,116 @@ module _ (pt : ℕ → Point) (c : List Float) (k ways : ℕ) (n x : List ℕ) w
           (subst (λ (M : ℕ). Tables (below M d b ts i) nd np m' nd' np' m'') re
             (subst (λ (u : List Side). Tables (seekP (room k nd np) pt c ways d u (getD ts i (none d))) nd np m' nd' np' m'') eb
             (v (getD ts i (none d)) (subst (λ (u : ℕ). Rep d ways n x u (getD ts i (none d))) (sym en) (z .each i li)) (kid-once ways n x d g ts z i li) (q .same-d ∙ e ∙ sym (q .same-p)) (subst (λ (M : ℕ). 1 ≤ M) (sym re) one))))) }
+
+  -- in the end the divided node is searched
+  whole : (d : ℕ) (b : List Side) (i g : ℕ) (ds : List Float) (ps : List ℕ) (m : ℕ) (nd : List Float) (np : List ℕ) (m' : ℕ) → g ≡ getD n (4 * i) 0 → g ≢ 0 → d ≢ 0
+      → ((ts : List (PTree (d - 1))) → Kids ways n x (d - 1) g ts → length ds ≡ length ps → 1 ≤ room k ds ps → Tables (overP (room k ds ps) (below (room k ds ps) (d - 1) b ts) (order b)) ds ps m nd np m')
+      → Seeks d b i ds ps m nd np m'
+  unfolding Seeks seekP below
+  whole zero b i g ds ps m nd np m' eg z nz w t r u e one = absurd (nz refl)
+  whole (suc d) b i g ds ps m nd np m' eg z nz w (leaf l) r u e one = absurd (z (eg ∙ r .1))
+  whole (suc d) b i g ds ps m nd np m' eg z nz w (branch h ts) r u e one =
+      subst (λ (v : ℕ). (us : List (PTree v)) → Kids ways n x v g us → length ds ≡ length ps → 1 ≤ room k ds ps → Tables (overP (room k ds ps) (below (room k ds ps) v b us) (order b)) ds ps m nd np m') (sub-one (suc d)) w ts
+      (kids-of ways n x d i g h ts r u eg) e one
+
+  pub nexts-skip : (d : ℕ) (b : List Side) (i g : ℕ) (ds : List Float) (ps : List ℕ) (m j o : ℕ) (y w : Float) (nd : List Float) (np : List ℕ) (m' : ℕ) → g ≡ getD n (4 * i) 0 → g ≢ 0 → d ≢ 0
+      → Nexts (d - 1) b g ds ps m j nd np m' → j < length (order b) → getD (order b) j (at y o) ≡ at y o → w ≡ bar (min (min k 512) (length nd)) (take m' nd) → lt w y ≡ true → Seeks d b i ds ps m nd np m'
+  nexts-skip d b i g ds ps m j o y w nd np m' eg z nz q hj ej ew s =
+      whole d b i g ds ps m nd np m' eg z nz (λ ts kids e one.
+        let re : room k nd np ≡ room k ds ps = same-room k ds nd ps np (q .same-d) (q .same-p) in
+        turning-end _ ds ps m _ nd np m' (q .turning ts kids e one)
+        (over-skip (room k ds ps) (below (room k ds ps) (d - 1) b ts) (order b) j (at y o) (entries m' nd np) hj ej
+          (ap (λ (M : ℕ). not (ltb (length (entries m' nd np)) M) && worst (λ w. lt w y) (entries m' nd np)) (sym re)
+          ∙ sym (skip-is m' k nd np y (q .same-d ∙ e ∙ sym (q .same-p)) (subst (λ (M : ℕ). 1 ≤ M) (sym re) one)) ∙ ap (λ (u : Float). lt u y) (sym ew) ∙ s)))
+
+  pub nexts-end : (d : ℕ) (b : List Side) (i g : ℕ) (ds : List Float) (ps : List ℕ) (m j : ℕ) (nd : List Float) (np : List ℕ) (m' : ℕ) → g ≡ getD n (4 * i) 0 → g ≢ 0 → d ≢ 0
+      → Nexts (d - 1) b g ds ps m j nd np m' → length (order b) ≤ j → Seeks d b i ds ps m nd np m'
+  nexts-end d b i g ds ps m j nd np m' eg z nz q h =
+      whole d b i g ds ps m nd np m' eg z nz (λ ts kids e one. turning-end _ ds ps m _ nd np m' (q .turning ts kids e one)
+        (ap (λ (us : List (At ℕ)). overP (room k ds ps) (below (room k ds ps) (d - 1) b ts) us (entries m' nd np)) (drop-of-length-le (order b) {i = j} h) ∙ unfold overP in refl))
+
+-- ---- the order of children in two arrays
+nears-length : (b : List Side) (c : List Float) (i m : ℕ) → length (nears b c i m) ≡ m
+unfolding nears
+nears-length b c i zero = refl
+nears-length b c i (suc m) = ap suc (nears-length b c (suc i) m)
+
+numbered-length : (i : ℕ) (ds : List Float) → length (numbered i ds) ≡ length ds
+unfolding numbered
+numbered-length i [] = refl
+numbered-length i (d ∷ ds) = ap suc (numbered-length (suc i) ds)
+
+placeEach-length : (t xs : List (At ℕ)) → length (placeEach t xs) ≡ length t + length xs
+unfolding placeEach
+placeEach-length t [] = omega arith
+placeEach-length t (x ∷ xs) = placeEach-length (place x t) xs ∙ omega (arith, place-length x t)
+
+-- so many children
+pub order-length : (b : List Side) (c : List Float) (ways : ℕ) → length (placeEach [] (numbered 0 (nears b c 0 ways))) ≡ ways
+order-length b c ways = placeEach-length [] (numbered 0 (nears b c 0 ways)) ∙ omega (arith, numbered-length 0 (nears b c 0 ways), nears-length b c 0 ways)
+
+-- each with a number below that
+numbers-below : (i m : ℕ) (ds : List Float) → i + length ds ≤ m → All (λ (e : At ℕ). e .item < m) (numbered i ds)
+unfolding numbered
+numbers-below i m [] h = tt
+numbers-below i m (d ∷ ds) h = (omega arith, numbers-below (suc i) m ds (omega arith))
+
+all-at : (P : At ℕ → Type 0) (es : List (At ℕ)) (j : ℕ) (z : At ℕ) → All P es → j < length es → P (getD es j z)
+all-at P [] j z a h = absurd (omega arith)
+all-at P (e ∷ es) zero z a h = a .0
+all-at P (e ∷ es) (suc j) z a h = all-at P es j z (a .1) (omega arith)
+
+pub order-below : (b : List Side) (c : List Float) (ways j : ℕ) (z : At ℕ) → j < ways → getD (placeEach [] (numbered 0 (nears b c 0 ways))) j z .item < ways
+order-below b c ways j z h =
+    all-at (λ (e : At ℕ). e .item < ways) (placeEach [] (numbered 0 (nears b c 0 ways))) j z
+    (placeEach-all (λ (e : At ℕ). e .item < ways) [] (numbered 0 (nears b c 0 ways)) tt (numbers-below 0 ways (nears b c 0 ways) (omega (arith, nears-length b c 0 ways))))
+    (omega (arith, h, order-length b c ways))
+
+-- an entry read from the two arrays
+entry-at : (es : List (At ℕ)) (j : ℕ) (z : At ℕ) → j < length es → getD es j z ≡ at (getD (dists es) j nan) (getD (items es) j 0)
+entry-at [] j z h = absurd (omega arith)
+entry-at (e ∷ es) zero z h = refl
+entry-at (e ∷ es) (suc j) z h = entry-at es j z (omega arith)
+
+pub order-at : (es : List (At ℕ)) (ds : List Float) (ps : List ℕ) (j : ℕ) → ds ≡ dists es → ps ≡ items es → j < length es → getD es j (at (getD ds j nan) (getD ps j 0)) ≡ at (getD ds j nan) (getD ps j 0)
+order-at es ds ps j ed ep h = entry-at es j _ h ∙ ap₂ (λ (a : List Float) (b : List ℕ). at (getD a j nan) (getD b j 0)) (sym ed) (sym ep)
+
+-- ---- the node distances of all children, put in order
+pub nears-more : (b b' : List Side) (c : List Float) (i m : ℕ) (y : Float) (l : List Float) → y ≡ nodeDistance b' c → b' ≡ part b i → l ≡ nears b c (suc i) m → y ∷ l ≡ nears b c i (suc m)
+unfolding nears
+nears-more b b' c i m y l ey eb el = ap₂ {C = List Float} (λ (u : Float) (v : List Float). u ∷ v) (ey ∙ ap (λ (n : List Side). nodeDistance n c) eb) el
+
+pub nears-none : (b : List Side) (c : List Float) (i : ℕ) → [] ≡ nears b c i 0
+unfolding nears
+nears-none b c i = refl
+
+front-all : {A : Type 0} (vs l : List A) → length vs ≡ length l → sets l 0 vs ≡ vs
+front-all {A} vs l e = sets-front vs l (omega (arith, e)) ∙ ap (λ (r : List A). vs ++ r) (drop-of-length-le l {i = length vs} (omega (arith, e))) ∙ append-nil vs
+
+pub ordered-all : (b : List Side) (c : List Float) (ways : ℕ) (ds : List Float) (ps : List ℕ) (ds' : List Float) (ps' : List ℕ) → ways ≤ 8 → ds ≡ nears b c 0 ways → length ps ≡ ways → Written (ordered ds ps) ds ps ds' ps'
+    → (ds' ≡ dists (placeEach [] (numbered 0 (nears b c 0 ways)))) × (ps' ≡ items (placeEach [] (numbered 0 (nears b c 0 ways))))
+ordered-all b c ways ds ps ds' ps' h ed ep w =
+    (w .0 ∙ ap (λ (t : List (At ℕ)). sets ds 0 (dists t)) same ∙ front-all (dists es) ds (length-map es (λ e. e .dist) ∙ order-length b c ways ∙ sym long),
+    w .1 ∙ ap (λ (t : List (At ℕ)). sets ps 0 (items t)) same ∙ front-all (items es) ps (length-map es (λ e. e .item) ∙ order-length b c ways ∙ sym ep))
+  where
+    es : List (At ℕ)
+    es = placeEach [] (numbered 0 (nears b c 0 ways))
+    long : length ds ≡ ways
+    long = ap length ed ∙ nears-length b c 0 ways
+    same : ordered ds ps ≡ placeEach [] (numbered 0 (nears b c 0 ways))
+    same = ap (λ (l : List Float). placeEach [] (numbered 0 l)) (take-all (min 8 (min (length ds) (length ps))) ds (omega (arith, long, ep, h)) ∙ ed)
+
+-- entry j of the order, as the code reads it: its number is below `ways`, so that a remainder changes nothing
+pub order-entry : (b : List Side) (c : List Float) (ways j : ℕ) (ds : List Float) (ps : List ℕ) → j < ways → ds ≡ dists (placeEach [] (numbered 0 (nears b c 0 ways))) → ps ≡ items (placeEach [] (numbered 0 (nears b c 0 ways)))
+    → (getD (placeEach [] (numbered 0 (nears b c 0 ways))) j (at (getD ds j nan) (getD ps j 0 % ways)) ≡ at (getD ds j nan) (getD ps j 0 % ways)) × (getD ps j 0 % ways < ways)
+order-entry b c ways j ds ps h ed ep =
+    (subst (λ (i : ℕ). getD es j (at (getD ds j nan) i) ≡ at (getD ds j nan) i) (sym small) (order-at es ds ps j ed ep hj), omega (arith, small, low))
+  where
+    es : List (At ℕ)
+    es = placeEach [] (numbered 0 (nears b c 0 ways))
+    hj : j < length (placeEach [] (numbered 0 (nears b c 0 ways)))
+    hj = omega (arith, h, order-length b c ways)
+    low : getD ps j 0 < ways
+    low = subst (λ (i : ℕ). i < ways) (ap (λ (e : At ℕ). e .item) (order-at (placeEach [] (numbered 0 (nears b c 0 ways))) ds ps j ed ep hj)) (order-below b c ways j (at (getD ds j nan) (getD ps j 0)) h)
+    small : getD ps j 0 % ways ≡ getD ps j 0
+    small = mod-eq-of-lt low
