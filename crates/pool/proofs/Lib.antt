@@ -8,7 +8,6 @@ pub mod Clears
 pub mod Deals
 pub mod Joins
 pub mod Steps
-pub mod Walks
 pub mod Down
 pub mod Read
 pub mod Erase

@@ -5,6 +5,7 @@ use mathlib.Core.List.{List, [], _∷_}
 use Prim.Native.Nat.{ℕ, zero, suc, _+_, _-_, _*_, _/_, _%_, _<_, _≤_}
 use native.Mathlib.Omega.{arith}
 use lib.ListN.{length, getD, set}
+use lib.Seq.{set-getD}
 use Rattle.words.specs.Words.{words}
 use Rattle.words.proofs.Words.{length-words, words-out, words-set-out}
 use Rattle.pool.specs.Lists.{ifz}
@@ -35,13 +36,20 @@ product-small w k lw lk = omega (arith, up-to 255 w (omega arith))
     up-to (suc j) (suc w) h = omega (arith, up-to j w (omega arith))
 
 -- ---- counts
-pub counts-up : (n m : List ℕ) (i v u : ℕ) → v ≡ getD n (4 * i + 3) 0 → u ≡ (v + 1) % 4294967296 → m ≡ set n (4 * i + 3) u → m ≡ counted n i
+pub counts-up : (n m : List ℕ) (i v : ℕ) → v ≡ getD n (4 * i + 3) 0 → m ≡ set n (4 * i + 3) ((v + 1) % 4294967296) → m ≡ counted n i
 unfolding counted
-counts-up n m i v u ev eu e = e ∙ ap (set n (4 * i + 3)) (eu ∙ ap (λ w. (w + 1) % 4294967296) ev)
+counts-up n m i v ev e = e ∙ ap (λ w. set n (4 * i + 3) ((w + 1) % 4294967296)) ev
 
-pub counts-down : (n m : List ℕ) (i v u : ℕ) → v ≡ getD n (4 * i + 3) 0 → u ≡ v - 1 → m ≡ set n (4 * i + 3) u → m ≡ lowered n i
+pub counts-down : (n m : List ℕ) (i v : ℕ) → v ≡ getD n (4 * i + 3) 0 → m ≡ set n (4 * i + 3) (v - 1) → m ≡ lowered n i
 unfolding lowered
-counts-down n m i v u ev eu e = e ∙ ap (set n (4 * i + 3)) (eu ∙ ap (λ w. w - 1) ev)
+counts-down n m i v ev e = e ∙ ap (λ w. set n (4 * i + 3) (w - 1)) ev
+
+pub counts-none : (n : List ℕ) (i v : ℕ) → v ≡ getD n (4 * i + 3) 0 → v ≡ 0 → n ≡ lowered n i
+unfolding lowered
+counts-none n i v ev z = sym (ap (set n (4 * i + 3)) (gone (getD n (4 * i + 3) 0) (sym ev ∙ z)) ∙ set-getD n (4 * i + 3) 0)
+  where
+    gone : (a : ℕ) → a ≡ 0 → a - 1 ≡ a
+    gone a e = omega arith
 
 -- ---- lists
 pub ends : (n n1 m : List ℕ) (i p : ℕ) → n1 ≡ set n (4 * i + 2) p → m ≡ counted n1 i → m ≡ ended n i p
