@@ -2,10 +2,11 @@
 use Prim.Native.Nat.{ℕ, zero, suc, _+_, _*_, _^_, _≤_, _<_}
 use native.Mathlib.Nat.{le-trans, le-refl}
 use native.Mathlib.Omega.{arith}
-use mathlib.Core.Path.{_≡_, refl, ap, _∙_}
+use mathlib.Core.Path.{_≡_, refl, ap, sym, _∙_}
 use mathlib.Core.Bool.{Bool, true, false, not, _&&_}
 use mathlib.Core.List.{List, [], _∷_, _++_, map, flatten}
 use lib.ListN.{length, getD, set}
+use borrow.Author.Tests.{le-ltb}
 use lib.Dec.{T, leb, ltb, T-not, lt→ltb}
 use Rattle.model.specs.Boxes.{Side, part, route}
 use Rattle.model.specs.Searches.{keep}
@@ -78,10 +79,25 @@ deal-at d b ps k zero i l = absurd (omega arith)
 deal-at d b ps k (suc n) zero l = ap (λ (m : ℕ). bag d (keep (goes b m) ps)) (omega arith)
 deal-at d b ps k (suc n) (suc i) l = deal-at d b ps (suc k) n i (omega arith) ∙ ap (λ (m : ℕ). bag d (keep (goes b m) ps)) (omega arith)
 
-splits-room : (cap d : ℕ) (b : List Side) (p : Point) (ps : List Point) → length ps < cap → splits cap d b p ps ≡ 0
+pub splits-room : (cap d : ℕ) (b : List Side) (p : Point) (ps : List Point) → length ps < cap → splits cap d b p ps ≡ 0
 unfolding splits
 splits-room cap zero b p ps h = refl
 splits-room cap (suc d) b p ps h = cond-same (λ (n : ℕ). n ≡ 0) (ltb (length ps) cap) 0 _ (λ l. refl) (λ l. absurd (T-not (ltb (length ps) cap) l (lt→ltb (length ps) cap h)))
+
+-- one split, and those of the child that gets the point
+pub splits-more : (cap d : ℕ) (b : List Side) (p : Point) (ps : List Point) → length ps ≤ cap → cap ≤ length ps
+    → splits cap (suc d) b p ps ≡ suc (splits cap d (part b (route b (p .at))) p (keep (goes b (route b (p .at))) ps))
+unfolding splits
+splits-more cap d b p ps h k =
+    ap (λ (t : Bool). elim t as (λ u. ℕ) [ true ↦ 0 | false ↦ elim (every (goes b i) ps) as (λ u. ℕ) [ true ↦ suc (splits cap d (part b i) p ps) | false ↦ 1 ] ]) (le-ltb (length ps) cap k)
+    ∙ (by (every (goes b i) ps) (λ u. keep-every (goes b i) ps u) (λ u. keep-fewer (goes b i) ps u))
+  where
+    i : ℕ
+    i = route b (p .at)
+    by : (t : Bool) → (T t → keep (goes b i) ps ≡ ps) → (T (not t) → length (keep (goes b i) ps) < length ps)
+        → elim t as (λ u. ℕ) [ true ↦ suc (splits cap d (part b i) p ps) | false ↦ 1 ] ≡ suc (splits cap d (part b i) p (keep (goes b i) ps))
+    by true a f = ap (λ (l : List Point). suc (splits cap d (part b i) p l)) (sym (a tt))
+    by false a f = ap suc (sym (splits-room cap d (part b i) p (keep (goes b i) ps) (let z = f tt in omega arith)))
 
 -- ---- an undivided node
 cases : (d w : ℕ) (br : Node (Tree d)) (qs : List Point) (m n : ℕ) → nodes (suc d) br ≡ suc (w + w * m) → (t u : Bool) → (T (not t) → T u → m ≡ n) → (T (not t) → T (not u) → m ≡ 0)

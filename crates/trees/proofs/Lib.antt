@@ -1,4 +1,5 @@
 pub mod Collects
+pub mod Inserts
 pub mod Seeks
 pub mod Tables
 pub mod Walks

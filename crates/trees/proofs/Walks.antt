@@ -26,7 +26,7 @@ places go f (suc d) b (branch k ts) = elim (go b) [ true ↦ flatten (mapi (λ i
 
 -- ---- it is the model's walk
 module _ (at : ℕ → Point) (go : List Side → Bool) (f : Point → Bool) where
-  keep-at : (l : List ℕ) → map at (keep (λ p. f (at p)) l) ≡ keep f (map at l)
+  pub keep-at : (l : List ℕ) → map at (keep (λ p. f (at p)) l) ≡ keep f (map at l)
   unfolding keep
   keep-at [] = refl
   keep-at (p ∷ l) = by (f (at p)) (keep-at l)
