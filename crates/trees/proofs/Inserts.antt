@@ -14,17 +14,18 @@ use Rattle.model.specs.Boxes.{Side, part, route}
 use Rattle.model.specs.Searches.{keep}
 use Rattle.model.specs.Trees.{Point, Tree, bag, into}
 use Rattle.model.specs.Trees as model
-use Rattle.model.proofs.Counts.{Good, GoodChild, chosen, deal-good, deal-length, in-range, part-ways}
+use Rattle.model.proofs.Counts.{Good, GoodChild, chosen, deal-good, deal-length, good-bag, in-range, keep-length, part-ways}
 use Rattle.model.proofs.Nearest.{map-append}
 use Rattle.model.proofs.Room.{deal-at, needed, splits, splits-more, splits-room}
 use Rattle.model.proofs.Short.{deal, goes, insertS}
 use Rattle.pool.specs.Lists.{is, occ, sumOf}
 use Rattle.pool.specs.Meanings.{Appends, Splits}
 use Rattle.pool.specs.Trees.{Node, leaf, branch, PTree, flat, flats, none, erase, groupsAt, placesAt, size, dealt, dealtFrom}
-use Rattle.pool.specs.Worlds.{Rep, World, Frame, Ready}
+use Rattle.pool.specs.Worlds.{Rep, RepLeaf, World, Frame, Ready}
 use Rattle.pool.specs.Writes.{Pool, both, kid, counted, turnAt}
 use Rattle.pool.proofs.Down.{back, down-counted}
 use Rattle.pool.proofs.Erase.{erase-flat}
+use Rattle.pool.proofs.Frames.{same-then}
 use Rattle.pool.proofs.Lists.{by-eq, is-eq, is-other, occ-append, sum-at, sum-set}
 use Rattle.pool.proofs.Deals.{dealt-long, dealt-occ, dealt-size}
 use Rattle.pool.proofs.Trees.{flats-at, flats-groups, flats-places, flats-size, groups-flat, places-flat, size-flat}
@@ -190,3 +191,122 @@ module _ (ways cap : ℕ) (pt : ℕ → Point) where
   unfolding needed bag splits
   need-bag zero b p ps = refl
   need-bag (suc d) b p ps = refl
+
+  module _ (d : ℕ) (b : List Side) (s s1 : Pool) (i p g : ℕ) (ts l fl fp : List ℕ) (w : World (suc d) ways s i (leaf l) (g ∷ fl) fp) (rd : Ready (suc d) s (leaf l) fp p) (eb : 2 ^ length b ≡ ways) (lw : 0 < ways)
+      (w1 : World (suc d) ways s1 i (branch g (flats d (dealt ways ts l))) fl fp) (f1 : Frame (suc d) ways s s1 i (leaf l) (g ∷ fl) []) (tr : Turns b ts l) where
+    abbrev ks : List (PTree d)
+    ks = flats d (dealt ways ts l)
+
+    abbrev e : ℕ
+    e = route b (pt p .at)
+
+    kids-places : (q : ℕ) → sumOf (placesAt d q) ks ≡ occ q l
+    kids-places q = flats-places d q (dealt ways ts l) ∙ dealt-occ ways ts l q lw
+
+    kids-size : sumOf (size d) ks ≡ length l
+    kids-size = flats-size d (dealt ways ts l) ∙ dealt-size ways ts l lw
+
+    ready-split : Ready (suc d) s1 (branch g ks) fp p
+    ready-split = record {
+      out = omega (arith, rd .out, kids-places p); nonzero = rd .nonzero; inside = omega (arith, rd .inside, f1 .len-x);
+      few = omega (arith, rd .few, kids-size) }
+
+    -- the child that gets the point
+    kid-erase : erase pt d (getD ks e (none d)) ≡ bag d (keep (goes b e) (map pt l))
+    kid-erase = sym (child-erase d ks e) ∙ ap (λ (us : List (Tree d)). getD us e (bag d [])) (dealt-erase d b ts l eb tr)
+        ∙ deal-at d b (map pt l) 0 ways e (in-range ways cap b (pt p) ways eb refl) ∙ ap (λ (m : ℕ). bag d (keep (goes b m) (map pt l))) {x = 0 + e} {y = e} (omega arith)
+
+    need-split : length l ≤ cap → cap ≤ length l → needed cap (suc d) b (pt p) (erase pt (suc d) (leaf l)) ≡ suc (needed cap d (part b e) (pt p) (erase pt d (getD ks e (none d))))
+    unfolding needed erase
+    need-split h k = splits-more cap d b (pt p) (map pt l) (omega (arith, h, length-map l pt)) (omega (arith, k, length-map l pt)) ∙ ap suc (sym (ap (needed cap d (part b e) (pt p)) kid-erase ∙ need-bag d (part b e) p (keep (goes b e) (map pt l))))
+
+    split-insert : cap ≤ length l → insertS ways cap (suc d) b (pt p) (erase pt (suc d) (branch g ks)) ≡ insertS ways cap (suc d) b (pt p) (erase pt (suc d) (leaf l))
+    unfolding erase insertS
+    split-insert k = ap (λ (us : List (Tree d)). model.branch (into d (insertS ways cap d) b (pt p) us)) (dealt-erase d b ts l eb tr) ∙ sym (insert-full ways cap d b (pt p) (map pt l) (omega (arith, k, length-map l pt)))
+
+    pub split-grown : (r : Pool) → length l ≤ cap → cap ≤ length l → Grown (suc d) b s1 r i p (branch g ks) fl fp → Grown (suc d) b s r i p (leaf l) (g ∷ fl) fp
+    unfolding erase
+    split-grown r h k gr = record {
+      tree = gr .tree; free = gr .free; world = gr .world;
+      frame = record {
+        len-n = gr .frame .len-n ∙ f1 .len-n; len-x = gr .frame .len-x ∙ f1 .len-x;
+        nodes = λ q o. same-then (gr .frame .nodes q (o .0, o .1, λ u c lc z. omega (arith, o .2 u c lc z, flats-groups d u (dealt ways ts l)))) (f1 .nodes q o);
+        links = λ q z. gr .frame .links q (omega (arith, z, kids-places q)) ∙ f1 .links q (omega (arith, z)) };
+      erased = gr .erased ∙ split-insert k;
+      groups = λ u. omega (arith, gr .groups u, flats-groups d u (dealt ways ts l));
+      places = λ q. omega (arith, gr .places q, kids-places q);
+      sizes = omega (arith, gr .sizes, kids-size);
+      left = omega (arith, gr .left, need-split h k, need-branch d b p g ks) }
+
+  inserts-same : (d d' : ℕ) (b b' : List Side) (s r : Pool) (j j' p : ℕ) → d ≡ d' → b ≡ b' → j ≡ j' → Inserts d b s r j p → Inserts d' b' s r j' p
+  inserts-same d d' b b' s r j j' p ed eb ej q = subst (λ (u : ℕ). Inserts d' b' s r u p) ej (subst (λ (u : List Side). Inserts d' u s r j p) eb (subst (λ (u : ℕ). Inserts u b s r j p) ed q))
+
+  -- the routed child of a good tree
+  kid-good : (d : ℕ) (b : List Side) (p g : ℕ) (ts : List (PTree d)) → 2 ^ length b ≡ ways → Good ways cap (suc d) b (erase pt (suc d) (branch g ts))
+      → Good ways cap d (part b (route b (pt p .at))) (erase pt d (getD ts (route b (pt p .at)) (none d)))
+  unfolding erase
+  kid-good d b p g ts eb gd = subst (Good ways cap d (part b (route b (pt p .at)))) (child-erase d ts (route b (pt p .at))) (chosen ways cap d b (pt p) (map (erase pt d) ts) eb (gd .0) (gd .2) .1)
+
+  -- ---- the four ways of the code
+  pub inserts-none : (d : ℕ) (b : List Side) (s : Pool) (i p k : ℕ) → k ≡ getD (s .nodes) (4 * i) 0 → k ≢ 0 → d ≡ 0 → Inserts d b s s i p
+  unfolding Inserts
+  inserts-none zero b s i p k ek nz e t fl fp w rd lw eb gd le = absurd (nz (ek ∙ w .rep .1))
+  inserts-none (suc d) b s i p k ek nz e t fl fp w rd lw eb gd le = absurd (omega arith)
+
+  pub inserts-last : (d : ℕ) (b : List Side) (s r : Pool) (i p k : ℕ) → k ≡ getD (s .nodes) (4 * i) 0 → k ≡ 0 → d ≡ 0 → Appends s r i p → Inserts d b s r i p
+  unfolding Inserts
+  inserts-last zero b s r i p k ek z e q l fl fp w rd lw eb gd le = append-grown zero b s r i p l fl fp (inl refl) q w rd lw
+  inserts-last (suc d) b s r i p k ek z e q t fl fp w rd lw eb gd le = absurd (omega arith)
+
+  pub inserts-room : (d : ℕ) (b : List Side) (s r : Pool) (i p k m : ℕ) → k ≡ getD (s .nodes) (4 * i) 0 → k ≡ 0 → m ≡ getD (s .nodes) (4 * i + 3) 0 → m < cap → Appends s r i p → Inserts d b s r i p
+  unfolding Inserts
+  inserts-room zero b s r i p k m ek z em h q l fl fp w rd lw eb gd le = append-grown zero b s r i p l fl fp (inl refl) q w rd lw
+  inserts-room (suc d) b s r i p k m ek z em h q (leaf l) fl fp w rd lw eb gd le = append-grown (suc d) b s r i p l fl fp (inr (omega (arith, em, h, w .rep .4))) q w rd lw
+  inserts-room (suc d) b s r i p k m ek z em h q (branch g ts) fl fp w rd lw eb gd le = absurd (w .rep .2 (sym (w .rep .1) ∙ sym ek ∙ z))
+
+  enter-any : (d : ℕ) (b : List Side) (s r : Pool) (i p g : ℕ) (ts : List (PTree d)) (fl fp n : List ℕ) → n ≡ counted (s .nodes) i → Inserts d (part b (route b (pt p .at))) (both n (s .links)) r (kid ways g (route b (pt p .at))) p
+      → World (suc d) ways s i (branch g ts) fl fp → Ready (suc d) s (branch g ts) fp p → 0 < ways → 2 ^ length b ≡ ways → Good ways cap d (part b (route b (pt p .at))) (erase pt d (getD ts (route b (pt p .at)) (none d)))
+      → needed cap (suc d) b (pt p) (erase pt (suc d) (branch g ts)) ≤ length fl → Grown (suc d) b s r i p (branch g ts) fl fp
+  enter-any d b s r i p g ts fl fp n en go w rd lw eb gd le = enter-grown d b s i p g ts fl fp w rd eb r n en go lw gd (subst (λ (m : ℕ). m ≤ length fl) (need-branch d b p g ts) le)
+
+  pub inserts-enter : (d : ℕ) (b : List Side) (s r : Pool) (i p k c j : ℕ) (b' : List Side) (n : List ℕ) → k ≡ getD (s .nodes) (4 * i) 0 → k ≢ 0 → d ≢ 0 → c ≡ route b (pt p .at) → n ≡ counted (s .nodes) i → j ≡ kid ways k c → b' ≡ part b c
+      → Inserts (d - 1) b' (both n (s .links)) r j p → Inserts d b s r i p
+  unfolding Inserts
+  inserts-enter zero b s r i p k c j b' n ek nz dz ec en ej eb' go t fl fp w rd lw eb gd le = absurd (dz refl)
+  inserts-enter (suc d) b s r i p k c j b' n ek nz dz ec en ej eb' go (leaf l) fl fp w rd lw eb gd le = absurd (nz (ek ∙ w .rep .1))
+  inserts-enter (suc d) b s r i p k c j b' n ek nz dz ec en ej eb' go (branch g ts) fl fp w rd lw eb gd le =
+      enter-any d b s r i p g ts fl fp n en
+      (inserts-same (suc d - 1) d b' (part b (route b (pt p .at))) (both n (s .links)) r j (kid ways g (route b (pt p .at))) p (sub-one (suc d)) (eb' ∙ ap (part b) ec) (ej ∙ ap₂ (kid ways) (ek ∙ w .rep .1) ec) go)
+      w rd lw eb (kid-good d b p g ts eb gd) le
+
+  leaf-good : (d : ℕ) (b : List Side) (l : List ℕ) → Good ways cap (suc d) b (erase pt (suc d) (leaf l)) → length l ≤ cap
+  unfolding erase
+  leaf-good d b l gd = omega (arith, gd, length-map l pt)
+
+  need-full : (d : ℕ) (b : List Side) (p : ℕ) (l : List ℕ) → length l ≤ cap → cap ≤ length l → 1 ≤ needed cap (suc d) b (pt p) (erase pt (suc d) (leaf l))
+  unfolding needed erase
+  need-full d b p l h k = omega (arith, splits-more cap d b (pt p) (map pt l) (omega (arith, h, length-map l pt)) (omega (arith, k, length-map l pt)))
+
+  split-any : (d : ℕ) (b : List Side) (s s1 r : Pool) (i p g : ℕ) (ts l fl fp n : List ℕ) → World (suc d) ways s i (leaf l) (g ∷ fl) fp → Ready (suc d) s (leaf l) fp p → 2 ^ length b ≡ ways → 0 < ways
+      → World (suc d) ways s1 i (branch g (flats d (dealt ways ts l))) fl fp → Frame (suc d) ways s s1 i (leaf l) (g ∷ fl) [] → Turns b ts l → n ≡ counted (s1 .nodes) i
+      → Inserts d (part b (route b (pt p .at))) (both n (s1 .links)) r (kid ways g (route b (pt p .at))) p → length l ≤ cap → cap ≤ length l
+      → needed cap (suc d) b (pt p) (erase pt (suc d) (leaf l)) ≤ suc (length fl) → Grown (suc d) b s r i p (leaf l) (g ∷ fl) fp
+  split-any d b s s1 r i p g ts l fl fp n w rd eb lw w1 f1 tr en go h k le =
+      split-grown d b s s1 i p g ts l fl fp w rd eb lw w1 f1 tr r h k
+      (enter-any d b s1 r i p g (flats d (dealt ways ts l)) fl fp n en go w1 (ready-split d b s s1 i p g ts l fl fp w rd eb lw w1 f1 tr) lw eb
+      (subst (Good ways cap d (part b (route b (pt p .at)))) (sym (kid-erase d b s s1 i p g ts l fl fp w rd eb lw w1 f1 tr)) (good-bag ways cap d (part b (route b (pt p .at))) (keep (goes b (route b (pt p .at))) (map pt l)) (omega (arith, h, keep-length (goes b (route b (pt p .at))) (map pt l), length-map l pt))))
+      (omega (arith, le, need-split d b s s1 i p g ts l fl fp w rd eb lw w1 f1 tr h k, need-branch d b p g (flats d (dealt ways ts l)))))
+
+  -- a full list is split first, then its place goes on into the child
+  pub inserts-split : (d : ℕ) (b : List Side) (s s1 r : Pool) (i p k m g c j : ℕ) (b' : List Side) (n ts : List ℕ) → k ≡ getD (s .nodes) (4 * i) 0 → k ≡ 0 → m ≡ getD (s .nodes) (4 * i + 3) 0 → cap ≤ m → d ≢ 0
+      → Splits ways ts s s1 i g → ((l : List ℕ) → RepLeaf (s .nodes) (s .links) i l → ((q : ℕ) → occ q l ≤ 1) → Turns b ts l) → c ≡ route b (pt p .at) → n ≡ counted (s1 .nodes) i → j ≡ kid ways g c → b' ≡ part b c
+      → Inserts (d - 1) b' (both n (s1 .links)) r j p → Inserts d b s r i p
+  unfolding Inserts Splits
+  inserts-split zero b s s1 r i p k m g c j b' n ts ek z em h dz sp tr ec en ej eb' go t fl fp w rd lw eb gd le = absurd (dz refl)
+  inserts-split (suc d) b s s1 r i p k m g c j b' n ts ek z em h dz sp tr ec en ej eb' go (branch u us) fl fp w rd lw eb gd le = absurd (w .rep .2 (sym (w .rep .1) ∙ sym ek ∙ z))
+  inserts-split (suc d) b s s1 r i p k m g c j b' n ts ek z em h dz sp tr ec en ej eb' go (leaf l) [] fp w rd lw eb gd le = absurd (omega (arith, le, need-full d b p l (leaf-good d b l gd) (omega (arith, em, h, w .rep .4))))
+  inserts-split (suc d) b s s1 r i p k m g c j b' n ts ek z em h dz sp tr ec en ej eb' go (leaf l) (f ∷ fl) fp w rd lw eb gd le =
+      let q = sp d l f fl fp lw w (rd .few) in
+      split-any d b s s1 r i p f ts l fl fp n w rd eb lw (q .1) (q .2) (tr l (w .rep) (λ v. omega (arith, w .places v))) en
+      (inserts-same (suc d - 1) d b' (part b (route b (pt p .at))) (both n (s1 .links)) r j (kid ways f (route b (pt p .at))) p (sub-one (suc d)) (eb' ∙ ap (part b) ec) (ej ∙ ap₂ (kid ways) (q .0) ec) go)
+      (leaf-good d b l gd) (omega (arith, em, h, w .rep .4)) le
