@@ -1,4 +1,5 @@
 // The quadtree: quadtree.rs, over places in lent pieces.
+pub mod descent;
 pub mod nearest;
 pub mod place;
 pub mod search;

@@ -1,4 +1,5 @@
 pub mod Collects
+pub mod Descents
 pub mod Inserts
 pub mod Seeks
 pub mod Tables
