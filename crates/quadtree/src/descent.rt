@@ -4,11 +4,17 @@ ghost use lib.ListN.{length};
 ghost use Rattle.words.specs.Words.{words};
 ghost use Rattle.geometry.specs.Sides.{place2, sides2};
 ghost use Rattle.trees.specs.Points.{pointAt};
-ghost use Rattle.trees.proofs.Descents.{Spot, reach};
+ghost use Rattle.model.specs.Trees.{same};
+ghost use Rattle.pool.specs.Read.{chain};
+ghost use Rattle.trees.proofs.Descents.{reach};
+ghost use Rattle.trees.proofs.Finds.{seek};
+use crate::place::payload;
+use crate::place::point_at;
 use geometry::plane::Point2D;
 use geometry::plane::Rectangle;
 use pool::child;
 use pool::group;
+use pool::next;
 
 // A node with its box and the levels below it.
 pub struct Leaf {
@@ -35,4 +41,39 @@ pub fn leaf_of(nodes: &[u8], i: usize, bounds: Rectangle, levels: u8, point: Poi
         left -= 1;
     }
     Leaf { node: at, bounds: b, levels: left }
+}
+
+// Where a point stands in its list: its place or 0, and the place before it or 0.
+pub struct Spot {
+    pub place: u32,
+    pub before: u32,
+}
+
+fn same_at(points: &[u8], p: u32, point: Point2D, mark: u32) -> bool
+    ensures { λ r. ⌜ r ≡ same (record { at = place2 point; payload = mark }) (pointAt 2 (words (now (points .entry))) p) ⌝ }
+{
+    let held = point_at(points, p);
+    let d = payload(points, p);
+    point.same(held) & (mark == d)
+}
+
+// The first place of a list whose point is equal.
+fn find_in(links: &[u8], points: &[u8], head: u32, point: Point2D, mark: u32) -> Spot
+    ensures { λ r. ⌜ record { place = r .place; before = r .before } ≡ seek (λ p. same (record { at = place2 point; payload = mark }) (pointAt 2 (words (now (points .entry))) p)) (chain (length (words (now (links .entry)))) (words (now (links .entry))) head) 0 ⌝ }
+{
+    let mut left = links.len() / 4;
+    let mut p = head;
+    let mut b: u32 = 0;
+    while left > 0 {
+        if p == 0 {
+            return Spot { place: 0, before: b };
+        }
+        if same_at(points, p, point, mark) {
+            return Spot { place: p, before: b };
+        }
+        b = p;
+        p = next(links, p);
+        left -= 1;
+    }
+    Spot { place: 0, before: b }
 }

@@ -9,7 +9,7 @@ ghost use Rattle.knn.specs.Candidates.{dists, items, numbered, room};
 ghost use Rattle.trees.specs.Points.{pointAt};
 ghost use Rattle.trees.proofs.Seeks.{candidate, nears};
 ghost use Rattle.trees.proofs.Tables.{Tables, offering, Seeks};
-use crate::place::point;
+use crate::place::point_at;
 use geometry::plane::Point2D;
 use geometry::plane::Rectangle;
 use knn::offer;
@@ -50,7 +50,7 @@ fn offer_list(links: &[u8], points: &[u8], head: u32, target: Point2D, k: usize,
         if p == 0 {
             return m;
         }
-        let at = point(points, p);
+        let at = point_at(points, p);
         let d = at.distance_sq(target);
         m = offer(dist, item, m, k, d, p);
         p = next(links, p);

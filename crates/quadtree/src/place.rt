@@ -7,7 +7,7 @@ use geometry::plane::Point2D;
 use words::get;
 use words::get_float;
 
-pub fn point(points: &[u8], p: u32) -> Point2D
+pub fn point_at(points: &[u8], p: u32) -> Point2D
     ensures { λ r. ⌜ place2 r ≡ pointAt 2 (words (now (points .entry))) p .at ⌝ }
 {
     let i = 3 * (p as usize);

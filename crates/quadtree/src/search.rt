@@ -11,7 +11,7 @@ ghost use Rattle.trees.proofs.Collects.{Collects, passing};
 ghost use Rattle.quadtree.specs.Questions.{meets, takes};
 use geometry::plane::Point2D;
 use geometry::plane::Rectangle;
-use crate::place::point;
+use crate::place::point_at;
 use pool::child;
 use pool::first;
 use pool::group;
@@ -67,7 +67,7 @@ fn collect_list(links: &[u8], points: &[u8], head: u32, q: Question, found: &mut
         if p == 0 {
             return m;
         }
-        let at = point(points, p);
+        let at = point_at(points, p);
         let yes = asks(q, at);
         m = note(found, m, p, yes);
         p = next(links, p);

@@ -18,7 +18,7 @@ use Rattle.quadtree.proofs.nearest.offer_list.Lts as lts
 use Rattle.geometry.proofs.plane.Point2D.distance_sq.Reads as distance-sq-reads
 use Rattle.knn.proofs.offer.Reads as offer-reads
 use Rattle.pool.proofs.next.Reads as next-reads
-use Rattle.quadtree.proofs.place.point.Reads as point-reads
+use Rattle.quadtree.proofs.place.point_at.Reads as point-at-reads
 
 abbrev Inv-loop : tie.InvT-loop
 Inv-loop links points head target k dist₀ item₀ n left₀ p₀ m₀ dist item left p m = Offering k (candidate (pointAt 2 (words points)) (place2 target)) (words links) left₀ p₀ dist₀ item₀ m₀ dist item left p m
@@ -43,8 +43,8 @@ returns : tie.Need-returns Inv-loop μ-loop
 returns c = offering-stop _ _ _ _ _ _ _ _ _ _ _ _ _ _ (c .before .before .loop .inv) (c .if1 .taken) (length-words (c .before .before .before .before .before .before .before .args .links .now))
 
 -- src/nearest.rt:53:13
-point-requires : tie.Need-point-requires Inv-loop μ-loop
-point-requires c κs = search needs
+point-at-requires : tie.Need-point-at-requires Inv-loop μ-loop
+point-at-requires c κs = search needs
 
 -- src/nearest.rt:54:13
 distance-sq-requires : tie.Need-distance-sq-requires Inv-loop μ-loop
@@ -68,7 +68,7 @@ loop-less c = search needs
 
 -- src/nearest.rt:49:5
 loop-again : tie.Need-loop-again Inv-loop μ-loop
-loop-again c = offering-step _ _ _ _ _ _ _ _ _ _ _ _ _ _ _ _ _ _ (c .before .before .before .before .before .before .before .before .before .before .before .before .loop .inv) (c .before .before .before .before .before .before .before .before .before .before .before .loop-test .taken) (c .before .before .before .before .before .before .before .before .before .before .if1 .left) (ap (λ (d : Float). at d (c .before .before .before .before .before .before .before .before .before .before .before .before .loop .p)) (c .before .before .before .before .before .before .before .before .distance-sq .ensures ∙ ap (λ (v : List Float). squared v (place2 (c .before .before .before .before .before .before .before .before .before .before .before .before .before .before .before .before .before .args .target))) (c .before .before .before .before .before .before .before .before .before .point .ensures))) (c .before .before .before .before .before .offer .kept .0) (c .before .before .before .before .before .offer .kept .1 .0) (c .before .before .before .before .before .offer .ensures .1 .1) (c .next .ensures)
+loop-again c = offering-step _ _ _ _ _ _ _ _ _ _ _ _ _ _ _ _ _ _ (c .before .before .before .before .before .before .before .before .before .before .before .before .loop .inv) (c .before .before .before .before .before .before .before .before .before .before .before .loop-test .taken) (c .before .before .before .before .before .before .before .before .before .before .if1 .left) (ap (λ (d : Float). at d (c .before .before .before .before .before .before .before .before .before .before .before .before .loop .p)) (c .before .before .before .before .before .before .before .before .distance-sq .ensures ∙ ap (λ (v : List Float). squared v (place2 (c .before .before .before .before .before .before .before .before .before .before .before .before .before .before .before .before .before .args .target))) (c .before .before .before .before .before .before .before .before .before .point-at .ensures))) (c .before .before .before .before .before .offer .kept .0) (c .before .before .before .before .before .offer .kept .1 .0) (c .before .before .before .before .before .offer .ensures .1 .1) (c .next .ensures)
 
 -- src/nearest.rt:43:1
 same-length-3 : tie.Need-same-length-3 Inv-loop μ-loop
@@ -92,7 +92,7 @@ offer-list-spec =
     same-length
     same-length-2
     returns
-    point-requires
+    point-at-requires
     distance-sq-requires
     offer-requires
     next-requires

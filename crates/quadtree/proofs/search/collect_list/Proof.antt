@@ -13,7 +13,7 @@ use Rattle.quadtree.proofs.search.collect_list.Tie as tie
 use Rattle.quadtree.proofs.search.collect_list.Reads as reads
 use Rattle.quadtree.proofs.search.collect_list.Lts as lts
 use Rattle.pool.proofs.next.Reads as next-reads
-use Rattle.quadtree.proofs.place.point.Reads as point-reads
+use Rattle.quadtree.proofs.place.point_at.Reads as point-at-reads
 use Rattle.quadtree.proofs.search.asks.Reads as asks-reads
 use Rattle.quadtree.proofs.search.note.Reads as note-reads
 
@@ -36,8 +36,8 @@ returns : tie.Need-returns Inv-loop μ-loop
 returns c = listing-stop _ _ _ _ _ _ _ _ _ _ _ (c .before .before .loop .inv) (c .if1 .taken) (length-words (c .before .before .before .before .before .before .args .links .now))
 
 -- src/search.rt:70:13
-point-requires : tie.Need-point-requires Inv-loop μ-loop
-point-requires c κs = search needs
+point-at-requires : tie.Need-point-at-requires Inv-loop μ-loop
+point-at-requires c κs = search needs
 
 -- src/search.rt:71:13
 asks-requires : tie.Need-asks-requires Inv-loop μ-loop
@@ -61,7 +61,7 @@ loop-less c = search needs
 
 -- src/search.rt:66:5
 loop-again : tie.Need-loop-again Inv-loop μ-loop
-loop-again c = listing-step _ _ _ _ _ _ _ _ _ _ _ _ _ _ (c .before .before .before .before .before .before .before .before .before .loop .inv) (c .before .before .before .before .before .before .before .before .loop-test .taken) (c .before .before .before .before .before .before .before .if1 .left) (c .before .before .before .before .before .asks .ensures ∙ ap (takes (c .before .before .before .before .before .before .before .before .before .before .before .before .before .args .q)) (c .before .before .before .before .before .before .point .ensures)) (c .before .before .before .note .kept .0) (c .before .before .before .note .ensures) (c .next .ensures)
+loop-again c = listing-step _ _ _ _ _ _ _ _ _ _ _ _ _ _ (c .before .before .before .before .before .before .before .before .before .loop .inv) (c .before .before .before .before .before .before .before .before .loop-test .taken) (c .before .before .before .before .before .before .before .if1 .left) (c .before .before .before .before .before .asks .ensures ∙ ap (takes (c .before .before .before .before .before .before .before .before .before .before .before .before .before .args .q)) (c .before .before .before .before .before .before .point-at .ensures)) (c .before .before .before .note .kept .0) (c .before .before .before .note .ensures) (c .next .ensures)
 
 -- src/search.rt:60:1
 same-length-2 : tie.Need-same-length-2 Inv-loop μ-loop
@@ -80,7 +80,7 @@ collect-list-spec =
     loop-holds
     same-length
     returns
-    point-requires
+    point-at-requires
     asks-requires
     note-requires
     next-requires
