@@ -1,5 +1,6 @@
 // The quadtree: quadtree.rs, over places in lent pieces.
 pub mod descent;
+pub mod insert;
 pub mod nearest;
 pub mod place;
 pub mod search;

@@ -4,4 +4,5 @@ pub mod Finds
 pub mod Inserts
 pub mod Seeks
 pub mod Tables
+pub mod Turns
 pub mod Walks

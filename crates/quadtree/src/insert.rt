@@ -1,0 +1,73 @@
+// Insertion: insert_within and subdivide of the Rust, by node numbers with the level falling.
+ghost use mathlib.Core.Path.{_≡_};
+ghost use mathlib.Core.List.{[], _∷_};
+ghost use Prim.Native.Nat.{_≤_};
+ghost use lib.ListN.{length};
+ghost use Rattle.words.specs.Words.{words};
+ghost use Rattle.model.specs.Boxes.{route};
+ghost use Rattle.geometry.specs.Sides.{place2, sides2};
+ghost use Rattle.pool.specs.Writes.{pool, counted, kid};
+ghost use Rattle.trees.specs.Points.{pointAt};
+ghost use Rattle.trees.proofs.Walks.{Notes};
+ghost use Rattle.trees.proofs.Turns.{turned, Parts};
+ghost use Rattle.trees.proofs.Inserts.{Inserts};
+use crate::place::point_at;
+use geometry::plane::Point2D;
+use geometry::plane::Rectangle;
+use groups::split;
+use pool::append;
+use pool::child;
+use pool::count;
+use pool::count_up;
+use pool::first;
+use pool::group;
+use pool::next;
+
+// Notes a turn as number n: how many are then noted.
+fn turn_to(turns: &mut [u8], n: usize, c: u8) -> usize
+    ensures { λ r. ⌜ Notes (c ∷ []) (now (turns .entry)) n (now (turns .exit)) r ⌝ }
+{
+    if n < turns.len() {
+        turns[n] = c;
+        return n + 1;
+    }
+    n
+}
+
+// The child that each point of a list goes to, in the order of the list.
+fn turns_of(links: &[u8], points: &[u8], head: u32, bounds: Rectangle, turns: &mut [u8]) -> usize
+    ensures { λ r. ⌜ Notes (turned (λ q. route (sides2 bounds) (pointAt 2 (words (now (points .entry))) q .at)) (length (words (now (links .entry)))) (words (now (links .entry))) head) (now (turns .entry)) 0 (now (turns .exit)) r ⌝ }
+{
+    let mut left = links.len() / 4;
+    let mut p = head;
+    let mut m = 0;
+    while left > 0 {
+        if p == 0 {
+            return m;
+        }
+        let at = point_at(points, p);
+        let c = (bounds.child_index(at) % 4) as u8;
+        m = turn_to(turns, m, c);
+        p = next(links, p);
+        left -= 1;
+    }
+    m
+}
+
+// Divides node i: its points move down in list order.
+fn subdivide(nodes: &mut [u8], links: &mut [u8], points: &[u8], i: usize, bounds: Rectangle) -> u32
+    ensures { λ r. ⌜ (length (words (now (links .entry))) ≤ 513 → Parts 4 (pointAt 2 (words (now (points .entry)))) (sides2 bounds) (pool (now (nodes .entry)) (now (links .entry))) (pool (now (nodes .exit)) (now (links .exit))) i r) ⌝ }
+{
+    let head = first(nodes, i);
+    let mut turns: [u8; 513] = [0; 513];
+    turns_of(links, points, head, bounds, &mut turns);
+    split(nodes, links, i, 4, &turns)
+}
+
+// Counts one point more in node i, which has the group k, and gives its child c.
+fn enter(nodes: &mut [u8], i: usize, k: u32, c: u8) -> usize
+    ensures { λ r. ⌜ (r ≡ kid 4 k c) × (words (now (nodes .exit)) ≡ counted (words (now (nodes .entry))) i) ⌝ }
+{
+    count_up(nodes, i);
+    child(4, k, c)
+}
