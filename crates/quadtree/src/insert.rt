@@ -71,3 +71,34 @@ fn enter(nodes: &mut [u8], i: usize, k: u32, c: u8) -> usize
     count_up(nodes, i);
     child(4, k, c)
 }
+
+// Puts place p, which holds a point that lies in this box, into the tree at node i.
+pub fn insert_within(nodes: &mut [u8], links: &mut [u8], points: &[u8], i: usize, bounds: Rectangle, levels: u8, capacity: u32, p: u32)
+    ensures { λ _. ⌜ (length (words (now (links .entry))) ≤ 513 → Inserts 4 capacity (pointAt 2 (words (now (points .entry)))) levels (sides2 bounds) (pool (now (nodes .entry)) (now (links .entry))) (pool (now (nodes .exit)) (now (links .exit))) i p) ⌝ }
+{
+    let k = group(nodes, i);
+    let at = point_at(points, p);
+    let c = (bounds.child_index(at) % 4) as u8;
+    let part = bounds.child(c as usize);
+    if k != 0 {
+        if levels == 0 {
+            return;
+        }
+        let j = enter(nodes, i, k, c);
+        insert_within(nodes, links, points, j, part, levels - 1, capacity, p);
+        return;
+    }
+    // At the depth cap the node becomes a bucket: near-coincident points can never be separated by another split.
+    if levels == 0 {
+        append(nodes, links, i, p);
+        return;
+    }
+    let n = count(nodes, i);
+    if n < capacity {
+        append(nodes, links, i, p);
+        return;
+    }
+    let g = subdivide(nodes, links, points, i, bounds);
+    let j = enter(nodes, i, g, c);
+    insert_within(nodes, links, points, j, part, levels - 1, capacity, p);
+}
