@@ -58,14 +58,15 @@ impl Case {
         let item = below(self.item.len()).map(move |n| Case { item: self.item[..n].to_vec(), ..with() });
         let count = below(self.count).map(move |count| Case { count, ..with() });
         let k = below(self.k).map(move |k| Case { k, ..with() });
-        offers.chain(dist).chain(item).chain(count).chain(k)
+        k.chain(count).chain(item).chain(dist).chain(offers)
     }
 
-    /// Cases in which some number is plainer.
+    /// Cases in which all numbers or one are plainer.
     fn plainer(&self) -> impl Iterator<Item = Case> + '_ {
-        let offers = plainer(&self.offers).into_iter().map(|offers| Case { offers, ..self.clone() });
-        let dist = plainer(&self.dist).into_iter().map(|dist| Case { dist, ..self.clone() });
-        offers.chain(dist)
+        let lists = |numbers: &[f64]| zeros(numbers).into_iter().chain(plainer(numbers));
+        let dist = lists(&self.dist).map(|dist| Case { dist, ..self.clone() });
+        let offers = lists(&self.offers).map(|offers| Case { offers, ..self.clone() });
+        dist.chain(offers)
     }
 
     /// As little of the case as still fails, or what is found in so many trials.
@@ -79,6 +80,12 @@ impl Case {
         }
         case
     }
+}
+
+/// A list as long that is all 0, if this one is not.
+fn zeros(numbers: &[f64]) -> Option<Vec<f64>> {
+    let other = numbers.iter().any(|x| x.to_bits() != 0);
+    other.then(|| vec![0.0; numbers.len()])
 }
 
 /// Smaller numbers to try.
