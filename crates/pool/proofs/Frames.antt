@@ -12,6 +12,7 @@ use Rattle.pool.specs.Trees.{Node, leaf, branch, PTree, flat, none, grou
 use Rattle.pool.specs.Worlds.{RepLeaf, Rep, Free, World, Same}
 use Rattle.pool.proofs.Lists.{by-eq, is-same, sum-at}
 use Rattle.pool.proofs.Chains.{chain-agree}
+use Rattle.pool.proofs.Trees.{Full}
 
 pub rep-flat : (d ways : ℕ) (n x : List ℕ) (i : ℕ) (l : List ℕ) → RepLeaf n x i l → Rep d ways n x i (flat d l)
 rep-flat zero ways n x i l r = r
@@ -20,6 +21,11 @@ rep-flat (suc d) ways n x i l r = r
 pub flat-rep : (d ways : ℕ) (n x : List ℕ) (i : ℕ) (l : List ℕ) → Rep d ways n x i (flat d l) → RepLeaf n x i l
 flat-rep zero ways n x i l r = r
 flat-rep (suc d) ways n x i l r = r
+
+pub rep-full : (d ways : ℕ) (n x : List ℕ) (i : ℕ) (t : PTree d) → Rep d ways n x i t → Full d ways t
+rep-full zero ways n x i l r = tt
+rep-full (suc d) ways n x i (leaf l) r = tt
+rep-full (suc d) ways n x i (branch k ts) r = (r .4, λ c lt. rep-full d ways n x (kid ways k c) (getD ts c (none d)) (r .5 c lt))
 
 -- ---- nodes
 pub same-set : (n : List ℕ) (w v i : ℕ) → w / 4 ≢ i → Same (set n w v) n i

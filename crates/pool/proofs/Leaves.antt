@@ -66,7 +66,7 @@ ended-words n i p h =
       getD-set-same m (4 * i + 3) v 0 (lt-length-set n (4 * i + 2) p h) ∙ ap (λ u. (u + 1) % 4294967296) (getD-set-other n (4 * i + 2) (4 * i + 3) p 0 (λ e. absurd (omega arith))),
     )
 
-up-is : (v k : ℕ) → v ≡ k → k + 1 < 4294967296 → (v + 1) % 4294967296 ≡ suc k
+pub up-is : (v k : ℕ) → v ≡ k → k + 1 < 4294967296 → (v + 1) % 4294967296 ≡ suc k
 up-is v k e h = omega arith
 
 -- the two ways of appending, by whether there was a last place

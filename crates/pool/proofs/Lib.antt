@@ -11,3 +11,5 @@ pub mod Steps
 pub mod Down
 pub mod Read
 pub mod Erase
+pub mod Insert
+pub mod Delete

@@ -37,6 +37,16 @@ flats-size d (l ∷ ls) = omega (arith, size-flat d l, flats-size d ls)
 pub flats-at : (d : ℕ) (ls : List (List ℕ)) (c : ℕ) → getD (flats d ls) c (none d) ≡ flat d (getD ls c [])
 flats-at d ls c = List·getD-map (flat d) ls c []
 
+-- ---- every divided node has all its children
+abbrev pub Full : (d : ℕ) → ℕ → PTree d → Type 0
+Full zero ways l = Unit {0}
+Full (suc d) ways (leaf l) = Unit {0}
+Full (suc d) ways (branch k ts) = (length ts ≡ ways) × ((c : ℕ) → c < ways → Full d ways (getD ts c (none d)))
+
+pub flat-full : (d ways : ℕ) (l : List ℕ) → Full d ways (flat d l)
+flat-full zero ways l = tt
+flat-full (suc d) ways l = tt
+
 -- ---- the nodes of a group
 pub kid-inj : (ways g h c e : ℕ) → c < ways → e < ways → kid ways g c ≡ kid ways h e → g ≡ h
 kid-inj ways zero zero c e lc le q = refl
