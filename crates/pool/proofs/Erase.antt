@@ -13,7 +13,7 @@ use Rattle.model.proofs.Counts.{held-bag}
 use Rattle.pool.proofs.Lists.{is-same, sum-at}
 use Rattle.pool.proofs.Trees.{flats-at, Full}
 
-map-append : {A B : Type 0} (f : A → B) (l m : List A) → map f (l ++ m) ≡ map f l ++ map f m
+pub map-append : {A B : Type 0} (f : A → B) (l m : List A) → map f (l ++ m) ≡ map f l ++ map f m
 map-append f [] m = refl
 map-append f (q ∷ l) m = ap (λ s. f q ∷ s) (map-append f l m)
 

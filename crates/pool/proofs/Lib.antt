@@ -13,3 +13,4 @@ pub mod Read
 pub mod Erase
 pub mod Insert
 pub mod Delete
+pub mod Changes
