@@ -1,11 +1,10 @@
 -- An insertion and a deletion with place numbers are the model's, without them. `sides` is a box as the model's list of sides. Assumes nothing.
 use mathlib.Core.Path.{_≡_, refl, ap, ap₂, sym, subst, _∙_}
 use mathlib.Core.Logic.{_≢_}
-use mathlib.Core.Bool.{Bool, true, false}
+use mathlib.Core.Bool.{true, false}
 use mathlib.Core.List.{List, [], _∷_, _++_, map, flatten}
 use Prim.Native.Nat.{ℕ, zero, suc, _+_, _<_, _≤_}
 use native.Mathlib.Omega.{arith}
-use lib.Dec.{ltb, leb}
 use borrow.Author.Tests.{lt-ltb, le-ltb, le-leb, lt-leb}
 use lib.Seq.{getD-set-same, getD-set-other}
 use lib.ListN.{length, getD, set, replicate, length-set, length-map, length-append, length-replicate, List·getD-map}
@@ -16,7 +15,7 @@ use Rattle.model.specs.Trees.{Point, Tree, bag, held, count, insert, into, into
 use Rattle.model.proofs.Short.{withoutS, mergeS, deleteS}
 use Rattle.pool.specs.Lists.{occ, sumOf}
 use Rattle.pool.specs.Writes.{turnAt}
-use Rattle.pool.specs.Trees.{Node, leaf, branch, PTree, flat, flats, none, size, erase, dealtFrom, dealt, joinedIn}
+use Rattle.pool.specs.Trees.{leaf, branch, PTree, flat, flats, none, size, erase, dealtFrom, dealt, joinedIn}
 use Rattle.pool.specs.Meanings.{Once}
 use Rattle.pool.specs.Changes.{iflt, routed, inserted, needed, listOf, Tight, leafAt, deleted, freed}
 use Rattle.pool.proofs.Lists.{by-eq, by-lt, is-same, sum-at, sum-set, sum-none}
@@ -40,7 +39,7 @@ getD-mapped f [] k h = absurd (omega arith)
 getD-mapped f (q ∷ l) zero h = refl
 getD-mapped f (q ∷ l) (suc k) h = getD-mapped f l k (omega arith)
 
-turn-is : (ways : ℕ) (f : ℕ → ℕ) (l : List ℕ) (k : ℕ) → ((q : ℕ) → f q < ways) → k < length l → turnAt ways (map f l) k ≡ f (getD l k 0)
+pub turn-is : (ways : ℕ) (f : ℕ → ℕ) (l : List ℕ) (k : ℕ) → ((q : ℕ) → f q < ways) → k < length l → turnAt ways (map f l) k ≡ f (getD l k 0)
 unfolding turnAt
 turn-is ways f l k lf h = rw (getD-mapped f l k h, lt-ltb (f (getD l k 0)) ways (lf (getD l k 0)))
 

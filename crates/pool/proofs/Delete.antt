@@ -8,12 +8,12 @@ use lib.ListN.{length, getD, set, length-set, length-append, length-map}
 use lib.Seq.{getD-set-same, getD-set-other}
 use Rattle.pool.specs.Lists.{is, occ, sumOf, lastOr}
 use Rattle.pool.specs.Writes.{Pool, both, kid, lowered}
-use Rattle.pool.specs.Trees.{Node, leaf, branch, PTree, flat, flats, none, groupsAt, placesAt, size, joinedIn}
-use Rattle.pool.specs.Worlds.{RepLeaf, Rep, World, Frame}
+use Rattle.pool.specs.Trees.{leaf, branch, PTree, flat, flats, none, groupsAt, placesAt, size, joinedIn}
+use Rattle.pool.specs.Worlds.{World, Frame}
 use Rattle.pool.specs.Meanings.{Once, Cuts, Merges}
 use Rattle.pool.specs.Changes.{iflt, listOf, Tight, leafAt, deleted, freed, Deletes}
-use Rattle.pool.proofs.Lists.{by-eq, by-lt, occ-append, sum-at, sum-set}
-use Rattle.pool.proofs.Trees.{groups-flat, places-flat, size-flat, flats-groups, flats-places, flats-size, Full, flat-full}
+use Rattle.pool.proofs.Lists.{by-eq, by-lt, occ-append, sum-set}
+use Rattle.pool.proofs.Trees.{groups-flat, places-flat, size-flat, flats-groups, flats-places, flats-size, Full, flat-full, groupCount, count-flat, flats-count}
 use Rattle.pool.proofs.Frames.{same-then, rep-full}
 use Rattle.pool.proofs.Joins.{joined-sum, once-sum}
 use Rattle.pool.proofs.Down.{down-counted, back}
@@ -36,6 +36,7 @@ pub record Less (d ways cap p : ℕ) (t t' : PTree d) (fl fl' : List ℕ) : Type
   pub groups : (h : ℕ) → groupsAt d h t' + occ h fl' ≡ groupsAt d h t + occ h fl
   pub places : (q : ℕ) → placesAt d q t' + is q p ≡ placesAt d q t
   pub sizes : suc (size d t') ≡ size d t
+  pub kept : groupCount d t' + length fl' ≡ groupCount d t + length fl
   pub full : Full d ways t'
   pub tight : Tight d ways cap t'
 
@@ -48,6 +49,7 @@ less-leaf d ways cap p l m fl = record {
   groups = λ h. omega (arith, groups-flat d h (l ++ (p ∷ m)), groups-flat d h (l ++ m));
   places = λ q. omega (arith, places-flat d q (l ++ (p ∷ m)), places-flat d q (l ++ m), occ-append q l (p ∷ m), occ-append q l m);
   sizes = omega (arith, size-flat d (l ++ (p ∷ m)), size-flat d (l ++ m), length-append l (p ∷ m), length-append l m);
+  kept = omega (arith, count-flat d (l ++ (p ∷ m)), count-flat d (l ++ m));
   full = flat-full d ways (l ++ m);
   tight = flat-tight d ways cap (l ++ m);
 }
@@ -67,12 +69,14 @@ module _ {B : Type 0} (ways cap : ℕ) (order : List ℕ) (part : B → ℕ → 
 
   less-fold : (d g : ℕ) (t : PTree (suc d)) (us : List (PTree d)) (fl fl' : List ℕ) → length us ≡ ways → ((c : ℕ) → c < ways → Sound d (getD us c (none d)))
       → ((h : ℕ) → (is h g + sumOf (groupsAt d h) us) + occ h fl' ≡ groupsAt (suc d) h t + occ h fl) → ((q : ℕ) → sumOf (placesAt d q) us + is q p ≡ placesAt (suc d) q t) → suc (sumOf (size d) us) ≡ size (suc d) t
+      → suc (sumOf (groupCount d) us) + length fl' ≡ groupCount (suc d) t + length fl
       → Less (suc d) ways cap p t (iflt cap (sumOf (size d) us) (branch g us) (leaf (joinedIn order (map (listOf d) us)))) fl (iflt cap (sumOf (size d) us) fl' (g ∷ fl'))
-  less-fold d g t us fl fl' el ft eg ep es = by-lt cap (sumOf (size d) us)
+  less-fold d g t us fl fl' el ft eg ep es ek = by-lt cap (sumOf (size d) us)
       (λ h. rw (iflt-yes cap (sumOf (size d) us) (branch g us) (leaf (joinedIn order (map (listOf d) us))) h, iflt-yes cap (sumOf (size d) us) fl' (g ∷ fl') h) (record {
         groups = eg;
         places = ep;
         sizes = es;
+        kept = ek;
         full = (el, λ c lc. ft c lc .0);
         tight = (h, λ c lc. ft c lc .1);
       }))
@@ -87,6 +91,7 @@ module _ {B : Type 0} (ways cap : ℕ) (order : List ℕ) (part : B → ℕ → 
         groups = λ h. omega (arith, eg h, ap (sumOf (groupsAt d h)) e ∙ flats-groups d h (map (listOf d) us));
         places = λ q. omega (arith, ep q, ap (sumOf (placesAt d q)) e ∙ flats-places d q (map (listOf d) us), joined-sum (occ q) refl (occ-append q) order (map (listOf d) us), once-sum ways order od (occ q) (map (listOf d) us) ll);
         sizes = omega (arith, es, ap (sumOf (size d)) e ∙ flats-size d (map (listOf d) us), joined-sum (λ s. length s) refl (λ a b. length-append a b) order (map (listOf d) us), once-sum ways order od (λ s. length s) (map (listOf d) us) ll);
+        kept = omega (arith, ek, ap (sumOf (groupCount d)) e ∙ flats-count d (map (listOf d) us));
         full = tt;
         tight = tt;
       }
@@ -108,6 +113,7 @@ module _ {B : Type 0} (ways cap : ℕ) (order : List ℕ) (part : B → ℕ → 
           (λ k. omega (arith, r .groups k, sum-set (groupsAt d k) ts (route b p) t' (none d) lt))
           (λ q. omega (arith, r .places q, sum-set (placesAt d q) ts (route b p) t' (none d) lt))
           (omega (arith, r .sizes, sum-set (size d) ts (route b p) t' (none d) lt))
+          (omega (arith, r .kept, sum-set (groupCount d) ts (route b p) t' (none d) lt))
 
   -- ---- on the words
   -- out of the list of an undivided node

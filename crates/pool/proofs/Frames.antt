@@ -1,16 +1,16 @@
 -- Words that agree where a tree has its places hold the same tree. Assumes nothing.
-use mathlib.Core.Path.{_≡_, refl, ap, sym, subst, _∙_}
+use mathlib.Core.Path.{_≡_, refl, sym, subst, _∙_}
 use mathlib.Core.Logic.{_≢_}
-use mathlib.Core.List.{List, [], _∷_, _++_}
-use Prim.Native.Nat.{ℕ, zero, suc, _+_, _*_, _/_, _<_, _≤_}
+use mathlib.Core.List.{List, [], _∷_}
+use Prim.Native.Nat.{ℕ, zero, suc, _+_, _*_, _/_, _<_}
 use native.Mathlib.Omega.{arith}
 use lib.ListN.{length, getD, set}
 use lib.Seq.{getD-set-other}
-use Rattle.pool.specs.Lists.{is, occ, sumOf, lastOr, Chain}
-use Rattle.pool.specs.Writes.{Pool, both, kid}
-use Rattle.pool.specs.Trees.{Node, leaf, branch, PTree, flat, none, groupsAt, placesAt, size}
+use Rattle.pool.specs.Lists.{occ, Chain}
+use Rattle.pool.specs.Writes.{both, kid}
+use Rattle.pool.specs.Trees.{leaf, branch, PTree, flat, none, groupsAt, placesAt}
 use Rattle.pool.specs.Worlds.{RepLeaf, Rep, Free, World, Same}
-use Rattle.pool.proofs.Lists.{by-eq, is-same, sum-at}
+use Rattle.pool.proofs.Lists.{is-same, sum-at}
 use Rattle.pool.proofs.Chains.{chain-agree}
 use Rattle.pool.proofs.Trees.{Full}
 

@@ -2,18 +2,18 @@
 use mathlib.Core.Path.{_≡_, refl, ap, ap₂, sym, subst, _∙_}
 use mathlib.Core.Logic.{_≢_}
 use mathlib.Core.List.{List, [], _∷_, _++_, map}
-use Prim.Native.Nat.{ℕ, zero, suc, _+_, _-_, _*_, _%_, _<_, _≤_}
+use Prim.Native.Nat.{ℕ, zero, suc, _+_, _*_, _%_, _<_, _≤_}
 use native.Mathlib.Omega.{arith}
 use borrow.Author.Tests.{lt-ltb, le-ltb}
-use lib.ListN.{length, getD, set, replicate, length-set, length-map, length-append}
+use lib.ListN.{length, getD, set, replicate, length-map, length-append}
 use Rattle.pool.specs.Lists.{is, occ, sumOf, Chain}
 use Rattle.pool.specs.Writes.{Pool, both, kid, counted, turnAt}
-use Rattle.pool.specs.Trees.{Node, leaf, branch, PTree, flat, flats, none, groupsAt, placesAt, size, dealtFrom, dealt}
-use Rattle.pool.specs.Worlds.{RepLeaf, Rep, World, Frame, Ready}
+use Rattle.pool.specs.Trees.{leaf, branch, PTree, flat, flats, none, groupsAt, placesAt, size, dealtFrom, dealt}
+use Rattle.pool.specs.Worlds.{World, Frame, Ready}
 use Rattle.pool.specs.Meanings.{Appends, Splits}
 use Rattle.pool.specs.Changes.{iflt, routed, inserted, leftFree, needed, Inserts}
-use Rattle.pool.proofs.Lists.{by-eq, by-lt, pos, is-same, is-other, is-eq, occ-append, sum-at, sum-set}
-use Rattle.pool.proofs.Trees.{groups-flat, places-flat, size-flat, flats-groups, flats-places, flats-size, flats-at, Full, flat-full}
+use Rattle.pool.proofs.Lists.{by-eq, by-lt, is-other, is-eq, occ-append, sum-at, sum-set}
+use Rattle.pool.proofs.Trees.{groups-flat, places-flat, size-flat, flats-groups, flats-places, flats-size, flats-at, Full, flat-full, groupCount, count-flat, flats-count}
 use Rattle.pool.proofs.Frames.{same-then, rep-full}
 use Rattle.pool.proofs.Leaves.{up-is}
 use Rattle.pool.proofs.Deals.{dealt-long, dealt-occ, dealt-size}
@@ -56,6 +56,7 @@ pub record Counts (d p k : ℕ) (t t' : PTree d) (fl fl' : List ℕ) : Type 0 wh
   pub places : (q : ℕ) → placesAt d q t' ≡ placesAt d q t + is q p
   pub sizes : size d t' ≡ suc (size d t)
   pub long : length fl' + k ≡ length fl
+  pub made : groupCount d t' ≡ groupCount d t + k
 
 counts-kid : (d p k g c : ℕ) (ts : List (PTree d)) (t' : PTree d) (fl fl' : List ℕ) → c < length ts → Counts d p k (getD ts c (none d)) t' fl fl' → Counts (suc d) p k (branch g ts) (branch g (set ts c t')) fl fl'
 counts-kid d p k g c ts t' fl fl' lt q = record {
@@ -63,6 +64,7 @@ counts-kid d p k g c ts t' fl fl' lt q = record {
   places = λ v. omega (arith, q .places v, sum-set (placesAt d v) ts c t' (none d) lt);
   sizes = omega (arith, q .sizes, sum-set (size d) ts c t' (none d) lt);
   long = q .long;
+  made = omega (arith, q .made, sum-set (groupCount d) ts c t' (none d) lt);
 }
 
 counts-add : (d p : ℕ) (l fl : List ℕ) → Counts d p 0 (flat d l) (flat d (l ++ (p ∷ []))) fl fl
@@ -71,6 +73,7 @@ counts-add d p l fl = record {
   places = λ v. omega (arith, places-flat d v l, places-flat d v (l ++ (p ∷ [])), occ-append v l (p ∷ []));
   sizes = omega (arith, size-flat d l, size-flat d (l ++ (p ∷ [])), length-append l (p ∷ []));
   long = omega arith;
+  made = omega (arith, count-flat d l, count-flat d (l ++ (p ∷ [])));
 }
 
 module _ {B : Type 0} (ways cap : ℕ) (part : B → ℕ → B) (route : B → ℕ → ℕ) (p : ℕ) where
@@ -117,6 +120,7 @@ module _ {B : Type 0} (ways cap : ℕ) (part : B → ℕ → B) (route : B → �
       places = λ v. omega (arith, q .places v, flats-places d v (dealt ways (map (route b) l) l), dealt-occ ways (map (route b) l) l v lw);
       sizes = omega (arith, q .sizes, flats-size d (dealt ways (map (route b) l) l), dealt-size ways (map (route b) l) l lw);
       long = omega (arith, q .long);
+      made = omega (arith, q .made, flats-count d (dealt ways (map (route b) l) l));
     }
 
     abbrev Counted : (d : ℕ) → B → PTree d → List ℕ → Type 0

@@ -2,15 +2,15 @@
 use mathlib.Core.Path.{_≡_, refl, ap, sym, subst, _∙_}
 use mathlib.Core.Logic.{_≢_}
 use mathlib.Core.List.{List, [], _∷_, _++_}
-use Prim.Native.Nat.{ℕ, zero, suc, _+_, _-_, _*_, _/_, _%_, _<_, _≤_}
+use Prim.Native.Nat.{ℕ, zero, suc, _+_, _-_, _*_, _%_, _<_, _≤_}
 use native.Mathlib.Omega.{arith}
 use lib.ListN.{length, getD, set, length-set, length-append}
 use lib.Seq.{getD-set-same, getD-set-other, lt-length-set}
-use Rattle.pool.specs.Lists.{ifz, is, occ, lastOr, Chain}
+use Rattle.pool.specs.Lists.{occ, lastOr, Chain}
 use Rattle.pool.specs.Writes.{Pool, both, counted, lowered, ended, appended, relasted, cutOut}
 use Rattle.pool.specs.Worlds.{RepLeaf, Same}
-use Rattle.pool.proofs.Lists.{by-eq, pos, ifz-yes, ifz-no, is-same, is-other, is-eq, occ-append}
-use Rattle.pool.proofs.Chains.{chain-agree, chain-set, occ-last, last-append, link, no-zero, last-nonzero}
+use Rattle.pool.proofs.Lists.{by-eq, ifz-yes, ifz-no, is-same, is-other, is-eq, occ-append}
+use Rattle.pool.proofs.Chains.{chain-set, occ-last, last-append, link, no-zero, last-nonzero}
 use Rattle.pool.proofs.Frames.{same-set, same-refl, same-then}
 
 -- what a write to the list of one undivided node keeps and makes

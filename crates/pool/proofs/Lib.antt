@@ -14,3 +14,5 @@ pub mod Erase
 pub mod Insert
 pub mod Delete
 pub mod Changes
+pub mod Need
+pub mod Theorems

@@ -1,9 +1,9 @@
 -- Laws of occurrences and sums. Assumes nothing.
-use mathlib.Core.Path.{_≡_, refl, ap, sym, _∙_}
+use mathlib.Core.Path.{_≡_, refl, ap, _∙_}
 use mathlib.Core.Logic.{_≢_}
 use mathlib.Core.Bool.{Bool, true, false}
 use mathlib.Core.List.{List, [], _∷_, _++_}
-use Prim.Native.Nat.{ℕ, zero, suc, _+_, _-_, _*_, _<_, _≤_}
+use Prim.Native.Nat.{ℕ, zero, suc, _+_, _<_, _≤_}
 use native.Mathlib.Omega.{arith}
 use native.Mathlib.Decide.{ℕ-discrete}
 use lib.Dec.{ltb}
@@ -45,9 +45,6 @@ is-other i j h = rw (ne-eqb i j h)
 
 pub is-eq : (i j : ℕ) → i ≡ j → is i j ≡ 1
 is-eq i j e = ap (λ k. is k j) e ∙ is-same j
-
-pub is-le : (i j : ℕ) → is i j ≤ 1
-is-le i j = by-eq i j (λ e. omega (arith, is-eq i j e)) (λ e. omega (arith, is-other i j e))
 
 pub occ-append : (p : ℕ) (l m : List ℕ) → occ p (l ++ m) ≡ occ p l + occ p m
 occ-append p [] m = omega arith
