@@ -18,7 +18,7 @@ use Rattle.pool.specs.Writes.{turnAt}
 use Rattle.pool.specs.Trees.{leaf, branch, PTree, flat, flats, none, size, erase, dealtFrom, dealt, joinedIn}
 use Rattle.pool.specs.Meanings.{Once}
 use Rattle.pool.specs.Changes.{iflt, routed, inserted, needed, listOf, Tight, leafAt, deleted, freed}
-use Rattle.pool.proofs.Lists.{by-eq, by-lt, is-same, sum-at, sum-set, sum-none}
+use Rattle.pool.proofs.Lists.{by-eq, by-lt, at-zero, at-suc, from-zero, is-same, sum-at, sum-set, sum-none}
 use Rattle.pool.proofs.Trees.{flats-at, Full}
 use Rattle.pool.proofs.Deals.{turn-lt, dealt-long, dealt-size}
 use Rattle.pool.proofs.Erase.{map-append, erase-flat, erase-count, erase-joined}
@@ -90,10 +90,10 @@ module _ {B : Type 0} (sides : B → List Side) (part : B → ℕ → B) (at : �
     each-is d b us j [] ls h el le = refl
     each-is d b us j (q ∷ l) ls h el le =
         ap (intoEach d (insert ways cap d) (sides b) (map at l))
-        (into-is d (insert ways cap d) b (at q) c (flats d ls) (flat d (getD ls c [] ++ (q ∷ []))) (sr b q ∙ sym (here j (h 0 (omega arith))))
+        (into-is d (insert ways cap d) b (at q) c (flats d ls) (flat d (getD ls c [] ++ (q ∷ []))) (sr b q ∙ sym (at-zero (λ a. turnAt ways us a ≡ route b q) j (h 0 (omega arith))))
         (ap (λ t. insert ways cap d (sides (part b c)) (at q) (erase at d t)) (flats-at d ls c) ∙ insert-flat d (part b c) q (getD ls c []) (omega (arith, le, sum-at (λ s. length s) ls c [] lt)))
         ∙ ap (map (erase at d)) (sym (map-set (flat d) ls c (getD ls c [] ++ (q ∷ [])))))
-        ∙ each-is d b us (suc j) l (set ls c (getD ls c [] ++ (q ∷ []))) (λ k lk. there j k (h (suc k) (omega arith))) (length-set ls c (getD ls c [] ++ (q ∷ [])) ∙ el)
+        ∙ each-is d b us (suc j) l (set ls c (getD ls c [] ++ (q ∷ []))) (λ k lk. at-suc (λ a. turnAt ways us a ≡ route b (getD l k 0)) j k (h (suc k) (omega arith))) (length-set ls c (getD ls c [] ++ (q ∷ [])) ∙ el)
         (omega (arith, le, sum-set (λ s. length s) ls c (getD ls c [] ++ (q ∷ [])) [] lt, length-append (getD ls c []) (q ∷ [])))
       where
         c : ℕ
@@ -102,20 +102,11 @@ module _ {B : Type 0} (sides : B → List Side) (part : B → ℕ → B) (at : �
         lt : turnAt ways us j < length ls
         lt = omega (arith, turn-lt ways us j lw, el)
 
-        here : (j : ℕ) → turnAt ways us (j + 0) ≡ route b q → turnAt ways us j ≡ route b q
-        here j e = let z : j + 0 ≡ j = omega arith in subst (λ a. turnAt ways us a ≡ route b q) z e
-
-        there : (j k : ℕ) → turnAt ways us (j + suc k) ≡ route b (getD l k 0) → turnAt ways us (suc j + k) ≡ route b (getD l k 0)
-        there j k e = let z : j + suc k ≡ suc j + k = omega arith in subst (λ a. turnAt ways us a ≡ route b (getD l k 0)) z e
-
     routed-is : (d : ℕ) (b : B) (l : List ℕ) → length l ≤ cap → intoEach d (insert ways cap d) (sides b) (map at l) (replicate ways (bag d [])) ≡ map (erase at d) (routed ways cap part route d b l)
     unfolding dealt
     routed-is d b l le =
         ap (intoEach d (insert ways cap d) (sides b) (map at l)) (ap (replicate ways) (sym (erase-flat at d [])) ∙ sym (map-replicate (erase at d) ways (none d)) ∙ ap (map (erase at d)) (sym (map-replicate (flat d) ways [])))
-        ∙ each-is d b (map (route b) l) 0 l (replicate ways []) (λ k lt. start k (turn-is ways (route b) l k (lr b) lt)) (length-replicate {A = List ℕ} ways []) (omega (arith, le, sum-none (λ s. length {A = ℕ} s) ways [] refl))
-      where
-        start : (k : ℕ) → turnAt ways (map (route b) l) k ≡ route b (getD l k 0) → turnAt ways (map (route b) l) (0 + k) ≡ route b (getD l k 0)
-        start k e = let z : k ≡ 0 + k = omega arith in subst (λ a. turnAt ways (map (route b) l) a ≡ route b (getD l k 0)) z e
+        ∙ each-is d b (map (route b) l) 0 l (replicate ways []) (λ k lt. from-zero (λ a. turnAt ways (map (route b) l) a ≡ route b (getD l k 0)) k (turn-is ways (route b) l k (lr b) lt)) (length-replicate {A = List ℕ} ways []) (omega (arith, le, sum-none (λ s. length {A = ℕ} s) ways [] refl))
 
     routed-fit : (d : ℕ) (b : B) (l : List ℕ) (c : ℕ) → c < ways → length l ≤ cap → Fit d ways cap (getD (routed ways cap part route d b l) c (none d))
     routed-fit d b l c lc le = subst (Fit d ways cap) (sym (flats-at d (dealt ways (map (route b) l) l) c)) (flat-fit d ways cap (getD (dealt ways (map (route b) l) l) c [])

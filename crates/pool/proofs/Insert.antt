@@ -12,7 +12,7 @@ use Rattle.pool.specs.Trees.{leaf, branch, PTree, flat, flats, none, gro
 use Rattle.pool.specs.Worlds.{World, Frame, Ready}
 use Rattle.pool.specs.Meanings.{Appends, Splits}
 use Rattle.pool.specs.Changes.{iflt, routed, inserted, leftFree, needed, Inserts}
-use Rattle.pool.proofs.Lists.{by-eq, by-lt, is-other, is-eq, occ-append, sum-at, sum-set}
+use Rattle.pool.proofs.Lists.{by-eq, by-lt, at-zero, at-suc, from-zero, is-other, is-eq, occ-append, sum-at, sum-set}
 use Rattle.pool.proofs.Trees.{groups-flat, places-flat, size-flat, flats-groups, flats-places, flats-size, flats-at, Full, flat-full, groupCount, count-flat, flats-count}
 use Rattle.pool.proofs.Frames.{same-then, rep-full}
 use Rattle.pool.proofs.Leaves.{up-is}
@@ -30,14 +30,8 @@ pub dealt-agree : (ways : ℕ) (ts us : List ℕ) (j : ℕ) (l : List ℕ) (ls :
 unfolding dealtFrom
 dealt-agree ways ts us j [] ls h = refl
 dealt-agree ways ts us j (p ∷ l) ls h =
-    ap (λ c. dealtFrom ways ts (suc j) l (set ls c (getD ls c [] ++ (p ∷ [])))) (here j (h 0 (omega arith)))
-    ∙ dealt-agree ways ts us (suc j) l (set ls (turnAt ways us j) (getD ls (turnAt ways us j) [] ++ (p ∷ []))) (λ k lt. there j k (h (suc k) (omega arith)))
-  where
-    here : (j : ℕ) → turnAt ways ts (j + 0) ≡ turnAt ways us (j + 0) → turnAt ways ts j ≡ turnAt ways us j
-    here j e = let z : j + 0 ≡ j = omega arith in subst (λ a. turnAt ways ts a ≡ turnAt ways us a) z e
-
-    there : (j k : ℕ) → turnAt ways ts (j + suc k) ≡ turnAt ways us (j + suc k) → turnAt ways ts (suc j + k) ≡ turnAt ways us (suc j + k)
-    there j k e = let z : j + suc k ≡ suc j + k = omega arith in subst (λ a. turnAt ways ts a ≡ turnAt ways us a) z e
+    ap (λ c. dealtFrom ways ts (suc j) l (set ls c (getD ls c [] ++ (p ∷ [])))) (at-zero (λ a. turnAt ways ts a ≡ turnAt ways us a) j (h 0 (omega arith)))
+    ∙ dealt-agree ways ts us (suc j) l (set ls (turnAt ways us j) (getD ls (turnAt ways us j) [] ++ (p ∷ []))) (λ k lt. at-suc (λ a. turnAt ways ts a ≡ turnAt ways us a) j k (h (suc k) (omega arith)))
 
 -- the turns of a list are what the route says
 abbrev pub Turned : ℕ → List ℕ → (ℕ → ℕ) → List ℕ → Type 0
@@ -45,10 +39,7 @@ Turned ways ts rt l = (j : ℕ) → j < length l → turnAt ways ts j ≡ turnAt
 
 pub dealt-turned : (ways : ℕ) (ts : List ℕ) (rt : ℕ → ℕ) (l : List ℕ) → Turned ways ts rt l → dealt ways ts l ≡ dealt ways (map rt l) l
 unfolding dealt
-dealt-turned ways ts rt l h = dealt-agree ways ts (map rt l) 0 l (replicate ways []) (λ k lt. start k (h k lt))
-  where
-    start : (k : ℕ) → turnAt ways ts k ≡ turnAt ways (map rt l) k → turnAt ways ts (0 + k) ≡ turnAt ways (map rt l) (0 + k)
-    start k e = let z : k ≡ 0 + k = omega arith in subst (λ a. turnAt ways ts a ≡ turnAt ways (map rt l) a) z e
+dealt-turned ways ts rt l h = dealt-agree ways ts (map rt l) 0 l (replicate ways []) (λ k lt. from-zero (λ a. turnAt ways ts a ≡ turnAt ways (map rt l) a) k (h k lt))
 
 -- ---- how many of everything there are afterwards
 pub record Counts (d p k : ℕ) (t t' : PTree d) (fl fl' : List ℕ) : Type 0 where

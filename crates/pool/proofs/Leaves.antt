@@ -9,7 +9,7 @@ use lib.Seq.{getD-set-same, getD-set-other, lt-length-set}
 use Rattle.pool.specs.Lists.{occ, lastOr, Chain}
 use Rattle.pool.specs.Writes.{Pool, both, counted, lowered, ended, appended, relasted, cutOut}
 use Rattle.pool.specs.Worlds.{RepLeaf, Same}
-use Rattle.pool.proofs.Lists.{by-eq, ifz-yes, ifz-no, is-same, is-other, is-eq, occ-append}
+use Rattle.pool.proofs.Lists.{append-nil, by-eq, ifz-yes, ifz-no, is-same, is-other, is-eq, occ-append}
 use Rattle.pool.proofs.Chains.{chain-set, occ-last, last-append, link, no-zero, last-nonzero}
 use Rattle.pool.proofs.Frames.{same-set, same-refl, same-then}
 
@@ -149,10 +149,6 @@ relast-none n i after b h z = ap (λ s. getD s (4 * i + 2) 0) (ifz-yes after (se
 relast-some : (n : List ℕ) (i after b : ℕ) → after ≢ 0 → getD (relasted n i after b) (4 * i + 2) 0 ≡ getD n (4 * i + 2) 0
 unfolding relasted
 relast-some n i after b z = ap (λ s. getD s (4 * i + 2) 0) (ifz-no after (set n (4 * i + 2) b) n z)
-
-append-nil : (a : List ℕ) → a ++ [] ≡ a
-append-nil [] = refl
-append-nil (x ∷ a) = ap (λ s. x ∷ s) (append-nil a)
 
 cut-chain : (m l x : List ℕ) (h q p : ℕ) → Chain x h (q ∷ (m ++ (p ∷ l))) → ((v : ℕ) → occ v (q ∷ (m ++ (p ∷ l))) ≤ 1) → Chain (set x (lastOr q m) (getD x p 0)) h (q ∷ (m ++ l))
 cut-chain [] l x h q p c o = (

@@ -1,5 +1,5 @@
 -- How many groups an insertion takes, told from the list that is full: one for each level at which every place of it goes with the new one, and one more where they part. Assumes nothing.
-use mathlib.Core.Path.{_≡_, refl, ap, sym, subst, _∙_}
+use mathlib.Core.Path.{_≡_, refl, ap, sym, _∙_}
 use mathlib.Core.Logic.{_≢_}
 use mathlib.Core.Bool.{cond}
 use mathlib.Core.List.{List, [], _∷_, _++_, map, append-assoc}
@@ -12,7 +12,7 @@ use lib.Seq.{getD-set-same, getD-set-other}
 use Rattle.pool.specs.Writes.{turnAt}
 use Rattle.pool.specs.Trees.{leaf, branch, PTree, flat, none, dealtFrom, dealt}
 use Rattle.pool.specs.Changes.{routed, needed}
-use Rattle.pool.proofs.Lists.{by-eq}
+use Rattle.pool.proofs.Lists.{by-eq, at-zero, at-suc, from-zero, append-nil}
 use Rattle.pool.proofs.Trees.{flats-at}
 use Rattle.pool.proofs.Deals.{turn-lt}
 use Rattle.pool.proofs.Changes.{turn-is}
@@ -51,39 +51,26 @@ going-less rt c (q ∷ l) (suc j) lt ne = by-eq (rt q) c
     (λ e. omega (arith, going-less rt c l j (omega arith) ne, ap (λ s. length s) (going-yes rt c q l e)))
     (λ e. omega (arith, going-le rt c l, ap (λ s. length s) (going-no rt c q l e)))
 
-append-nil : (a : List ℕ) → a ++ [] ≡ a
-append-nil [] = refl
-append-nil (x ∷ a) = ap (λ s. x ∷ s) (append-nil a)
-
 -- what child c gets
 dealt-at : (ways : ℕ) (us : List ℕ) (rt : ℕ → ℕ) (j : ℕ) (l : List ℕ) (ls : List (List ℕ)) (c : ℕ) → 0 < ways → ((k : ℕ) → k < length l → turnAt ways us (j + k) ≡ rt (getD l k 0)) → c < ways → length ls ≡ ways
     → getD (dealtFrom ways us j l ls) c [] ≡ getD ls c [] ++ going rt c l
 unfolding dealtFrom going
 dealt-at ways us rt j [] ls c lw h lc el = sym (append-nil (getD ls c []))
 dealt-at ways us rt j (q ∷ l) ls c lw h lc el =
-    dealt-at ways us rt (suc j) l (set ls e (getD ls e [] ++ (q ∷ []))) c lw (λ k lk. there j k (h (suc k) (omega arith))) lc (length-set ls e (getD ls e [] ++ (q ∷ [])) ∙ el)
+    dealt-at ways us rt (suc j) l (set ls e (getD ls e [] ++ (q ∷ []))) c lw (λ k lk. at-suc (λ a. turnAt ways us a ≡ rt (getD l k 0)) j k (h (suc k) (omega arith))) lc (length-set ls e (getD ls e [] ++ (q ∷ [])) ∙ el)
     ∙ by-eq c e
     (λ z. ap (λ s. s ++ going rt c l) (ap (λ v. getD (set ls e (getD ls e [] ++ (q ∷ []))) v []) z ∙ getD-set-same ls e (getD ls e [] ++ (q ∷ [])) [] (omega (arith, turn-lt ways us j lw, el)) ∙ ap (λ v. getD ls v [] ++ (q ∷ [])) (sym z))
-    ∙ append-assoc (getD ls c []) (q ∷ []) (going rt c l) ∙ ap (λ s. getD ls c [] ++ s) (sym (going-yes rt c q l (sym (here j (h 0 (omega arith))) ∙ sym z))))
-    (λ z. ap (λ s. s ++ going rt c l) (getD-set-other ls e c (getD ls e [] ++ (q ∷ [])) [] z) ∙ ap (λ s. getD ls c [] ++ s) (sym (going-no rt c q l (λ v. z (sym v ∙ sym (here j (h 0 (omega arith))))))))
+    ∙ append-assoc (getD ls c []) (q ∷ []) (going rt c l) ∙ ap (λ s. getD ls c [] ++ s) (sym (going-yes rt c q l (sym (at-zero (λ a. turnAt ways us a ≡ rt q) j (h 0 (omega arith))) ∙ sym z))))
+    (λ z. ap (λ s. s ++ going rt c l) (getD-set-other ls e c (getD ls e [] ++ (q ∷ [])) [] z) ∙ ap (λ s. getD ls c [] ++ s) (sym (going-no rt c q l (λ v. z (sym v ∙ sym (at-zero (λ a. turnAt ways us a ≡ rt q) j (h 0 (omega arith))))))))
   where
     e : ℕ
     e = turnAt ways us j
 
-    here : (j : ℕ) → turnAt ways us (j + 0) ≡ rt q → turnAt ways us j ≡ rt q
-    here j k = let z : j + 0 ≡ j = omega arith in subst (λ a. turnAt ways us a ≡ rt q) z k
-
-    there : (j k : ℕ) → turnAt ways us (j + suc k) ≡ rt (getD l k 0) → turnAt ways us (suc j + k) ≡ rt (getD l k 0)
-    there j k v = let z : j + suc k ≡ suc j + k = omega arith in subst (λ a. turnAt ways us a ≡ rt (getD l k 0)) z v
-
 pub dealt-going : (ways : ℕ) (rt : ℕ → ℕ) (l : List ℕ) (c : ℕ) → ((q : ℕ) → rt q < ways) → c < ways → getD (dealt ways (map rt l) l) c [] ≡ going rt c l
 unfolding dealt
 dealt-going ways rt l c lr lc =
-    dealt-at ways (map rt l) rt 0 l (replicate ways []) c (omega arith) (λ k lt. start k (turn-is ways rt l k lr lt)) lc (length-replicate {A = List ℕ} ways [])
+    dealt-at ways (map rt l) rt 0 l (replicate ways []) c (omega arith) (λ k lt. from-zero (λ a. turnAt ways (map rt l) a ≡ rt (getD l k 0)) k (turn-is ways rt l k lr lt)) lc (length-replicate {A = List ℕ} ways [])
     ∙ ap (λ s. s ++ going rt c l) (getD-replicate {A = List ℕ} ways c [] [] lc)
-  where
-    start : (k : ℕ) → turnAt ways (map rt l) k ≡ rt (getD l k 0) → turnAt ways (map rt l) (0 + k) ≡ rt (getD l k 0)
-    start k e = let z : k ≡ 0 + k = omega arith in subst (λ a. turnAt ways (map rt l) a ≡ rt (getD l k 0)) z e
 
 module _ {B : Type 0} (ways cap : ℕ) (part : B → ℕ → B) (route : B → ℕ → ℕ) (p : ℕ) (lr : (b : B) (q : ℕ) → route b q < ways) where
   pub need-bottom : (b : B) (t : PTree zero) → needed ways cap part route p zero b t ≡ 0

@@ -3,7 +3,7 @@ use mathlib.Core.Path.{_≡_, refl, ap, sym, _∙_}
 use mathlib.Core.List.{List, [], _∷_, map}
 use Prim.Native.Nat.{ℕ, zero, suc, _+_, _*_, _<_, _≤_}
 use native.Mathlib.Omega.{arith}
-use lib.ListN.{length, getD, set, length-set}
+use lib.ListN.{length, getD, set, length-set, length-map}
 use lib.Seq.{getD-set-same}
 use Rattle.model.specs.Trees as model
 use Rattle.model.specs.Trees.{Point, count}
@@ -96,20 +96,12 @@ module _ (at : ℕ → Point) (ways cap : ℕ) where
   full-of (suc d) (branch k ts) h = (el, λ c lc. full-of d (getD ts c (none d)) (all-at (AllOrNone ways d) (erase at d) ts c (none d) (omega (arith, lc, el)) (h .1)))
     where
       el : length ts ≡ ways
-      el = sym (mapped ts) ∙ h .0
-        where
-          mapped : (us : List (PTree d)) → length (map (erase at d) us) ≡ length us
-          mapped [] = refl
-          mapped (u ∷ us) = ap suc (mapped us)
+      el = sym (length-map ts (erase at d)) ∙ h .0
 
   pub fit-of : (d : ℕ) (t : PTree d) → Full d ways t → LeavesFit cap d (erase at d t) → Fit d ways cap t
   unfolding erase
   fit-of zero l f h = tt
-  fit-of (suc d) (leaf l) f h = omega (arith, h, mapped l)
-    where
-      mapped : (l : List ℕ) → length (map at l) ≡ length l
-      mapped [] = refl
-      mapped (q ∷ l) = ap suc (mapped l)
+  fit-of (suc d) (leaf l) f h = omega (arith, h, length-map l at)
   fit-of (suc d) (branch k ts) f h = λ c lc. fit-of d (getD ts c (none d)) (f .1 c lc) (all-at (LeavesFit cap d) (erase at d) ts c (none d) (omega (arith, lc, f .0)) h)
 
   pub tight-of : (d : ℕ) (t : PTree d) → Full d ways t → BranchesFull cap d (erase at d t) → Tight d ways cap t
