@@ -1,0 +1,2 @@
+-- Bytes read as words. Definitions only.
+pub mod Words
