@@ -3,17 +3,16 @@ use mathlib.Core.Path.{_≡_, refl, ap, ap₂, sym, subst, _∙_}
 use mathlib.Core.Logic.{_≢_}
 use mathlib.Core.Bool.{Bool, true, false, cond}
 use mathlib.Core.List.{List, [], _∷_}
-use Prim.Native.Nat.{ℕ, zero, suc, _+_, _-_, _*_, _/_, _%_, _<_, _≤_, min}
+use Prim.Native.Nat.{ℕ, zero, suc, _+_, _-_, _*_, _/_, _<_, _≤_}
 use native.Mathlib.Omega.{arith}
 use native.Mathlib.Nat.{div-zero}
 use native.Mathlib.Numerals.{sub-one}
 use lib.Dec.{ltb}
 use borrow.Author.Tests.{lt-ltb, le-ltb}
 use lib.ListN.{length, getD, set, drop, List·getD-eq-default}
-use lib.Seq.{drop-cons, drop-length}
+use lib.Seq.{drop-cons}
 use Rattle.words.specs.Words.{words}
 use Rattle.words.proofs.Words.{length-words}
-use Rattle.pool.specs.Lists.{ifz}
 use Rattle.pool.specs.Writes.{Pool, both, kid, appended, pushed, taken, given, enough, pushedDown, givenDown, named, cleared, clearedFrom, emptied, turnAt, dealing, parted, Row, row, hooked, either, joining, laid, merged}
 use Rattle.pool.specs.Meanings.{Tells, Empties, Splits, Merges}
 use Rattle.pool.proofs.Lists.{ifz-yes, ifz-no}

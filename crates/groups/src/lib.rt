@@ -1,10 +1,10 @@
 // Groups of nodes as a whole: whether enough are free, all of them free at the start, the split of a node and the merge of its children.
 // What is written and what it means is defined in `pool`, whose functions these put together. Total as those are.
 ghost use mathlib.Core.Path.{_≡_};
-ghost use Prim.Native.Nat.{ℕ, _-_, _/_, _<_};
+ghost use Prim.Native.Nat.{_-_, _/_, _<_};
 ghost use lib.ListN.{length, getD, set};
 ghost use Rattle.words.specs.Words.{words};
-ghost use Rattle.pool.specs.Writes.{Pool, both, pool, enough, pushedDown, givenDown, named, cleared, clearedFrom, emptied, turnAt, dealing, parted, hooked, either, laid, merged};
+ghost use Rattle.pool.specs.Writes.{pool, enough, pushedDown, givenDown, named, cleared, clearedFrom, emptied, turnAt, dealing, parted, hooked, either, laid, merged};
 ghost use Rattle.pool.specs.Meanings.{Tells, Empties, Splits, Merges};
 use pool::append;
 use pool::child;

@@ -1,5 +1,5 @@
 -- Laws of chains: words that agree, one chain behind another, and how long a chain is. Assumes nothing.
-use mathlib.Core.Path.{_≡_, refl, ap, sym, subst, _∙_}
+use mathlib.Core.Path.{_≡_, refl, ap, sym, _∙_}
 use mathlib.Core.Logic.{_≢_}
 use mathlib.Core.List.{List, [], _∷_, _++_}
 use Prim.Native.Nat.{ℕ, zero, suc, _+_, _<_, _≤_}
@@ -7,7 +7,7 @@ use native.Mathlib.Omega.{arith}
 use lib.ListN.{length, getD, set, length-set}
 use lib.Seq.{getD-set-same, getD-set-other, lt-length-set}
 use Rattle.pool.specs.Lists.{is, occ, lastOr, Chain}
-use Rattle.pool.proofs.Lists.{by-eq, is-same, is-other, is-eq, occ-append}
+use Rattle.pool.proofs.Lists.{by-eq, is-same, is-other, is-eq}
 
 -- words that agree at every place of a chain
 pub chain-agree : (l x y : List ℕ) (h : ℕ) → length y ≡ length x → ((p : ℕ) → occ p l ≢ 0 → getD y p 0 ≡ getD x p 0) → Chain x h l → Chain y h l

@@ -1,21 +1,20 @@
 -- Empty nodes, and a pool in which everything is free. Assumes nothing.
-use mathlib.Core.Path.{_≡_, refl, ap, sym, subst, _∙_}
+use mathlib.Core.Path.{_≡_, refl, sym, subst, _∙_}
 use mathlib.Core.Logic.{_≢_}
-use mathlib.Core.List.{List, [], _∷_, _++_}
-use Prim.Native.Nat.{ℕ, zero, suc, _+_, _-_, _*_, _/_, _%_, _<_, _≤_, min}
+use mathlib.Core.List.{List, []}
+use Prim.Native.Nat.{ℕ, zero, suc, _+_, _-_, _*_, _/_, _<_, _≤_}
 use native.Mathlib.Omega.{arith}
 use native.Mathlib.Nat.{div-add-mod'}
 use lib.ListN.{length, getD, set, length-set}
 use lib.Seq.{getD-set-same, getD-set-other}
-use Rattle.pool.specs.Lists.{is, occ, Chain}
-use Rattle.pool.specs.Writes.{Pool, both, kid, pushed, given, pushedDown, givenDown, named, cleared, clearedFrom, emptied}
-use Rattle.pool.specs.Trees.{PTree, flat, none, groupsAt, placesAt}
-use Rattle.pool.specs.Worlds.{RepLeaf, Rep, Free, World, Same}
+use Rattle.pool.specs.Lists.{occ, Chain}
+use Rattle.pool.specs.Writes.{Pool, kid, pushed, given, pushedDown, givenDown, named, cleared, clearedFrom, emptied}
+use Rattle.pool.specs.Worlds.{RepLeaf, Free, Same}
 use Rattle.pool.specs.Meanings.{upFrom, Empties}
-use Rattle.pool.proofs.Lists.{by-eq, is-same, is-other, is-eq}
+use Rattle.pool.proofs.Lists.{by-eq, is-other, is-eq}
 use Rattle.pool.proofs.Trees.{groups-flat, places-flat, kid-low}
 use Rattle.pool.proofs.Frames.{rep-flat, same-set, same-refl, same-then, leaf-agree, free-agree}
-use Rattle.pool.proofs.Worlds.{push-chain, pushed-length, give-free, given-length, no-free-zero}
+use Rattle.pool.proofs.Worlds.{push-chain, pushed-length, give-free, given-length}
 
 -- ---- empty nodes
 pub cleared-length : (n : List ℕ) (i : ℕ) → length (cleared n i) ≡ length n

@@ -2,21 +2,21 @@
 use mathlib.Core.Path.{_≡_, refl, ap, sym, subst, _∙_}
 use mathlib.Core.Logic.{_≢_}
 use mathlib.Core.Bool.{Bool, true, false, cond}
-use mathlib.Core.List.{List, [], _∷_, _++_, map}
-use Prim.Native.Nat.{ℕ, zero, suc, _+_, _-_, _*_, _<_, _≤_}
+use mathlib.Core.List.{List, [], _∷_, _++_}
+use Prim.Native.Nat.{ℕ, zero, suc, _+_, _*_, _<_, _≤_}
 use native.Mathlib.Omega.{arith}
 use lib.Dec.{ltb}
 use borrow.Author.Tests.{ltb-true}
 use lib.ListN.{length, getD, set, replicate, length-set, length-map, length-replicate, getD-replicate, length-append}
 use lib.Seq.{getD-set-same, getD-set-other}
-use Rattle.pool.specs.Lists.{ifz, is, occ, sumOf, lastOr, Chain}
+use Rattle.pool.specs.Lists.{occ, sumOf, Chain}
 use Rattle.pool.specs.Writes.{Pool, both, kid, appended, taken, clearedFrom, turnAt, dealing, parted}
-use Rattle.pool.specs.Trees.{Node, leaf, branch, PTree, flat, flats, none, groupsAt, placesAt, size, dealtFrom, dealt}
-use Rattle.pool.specs.Worlds.{RepLeaf, Rep, Free, World, Same, Off, Frame}
+use Rattle.pool.specs.Trees.{leaf, branch, flat, flats, dealtFrom, dealt}
+use Rattle.pool.specs.Worlds.{RepLeaf, Rep, Free, World, Same, Frame}
 use Rattle.pool.specs.Meanings.{Splits}
 use Rattle.pool.proofs.Lists.{by-eq, pos, ifz-yes, ifz-no, is-same, is-other, is-eq, occ-append, sum-at, sum-two, sum-set, sum-none}
 use Rattle.pool.proofs.Chains.{chain-agree, chain-short, no-zero}
-use Rattle.pool.proofs.Trees.{flats-groups, flats-places, flats-size, flats-at, kid-inj, kid-same, kid-low}
+use Rattle.pool.proofs.Trees.{flats-groups, flats-places, flats-size, flats-at, kid-inj, kid-same}
 use Rattle.pool.proofs.Frames.{rep-flat, same-set, same-refl, same-then, leaf-agree, free-agree}
 use Rattle.pool.proofs.Leaves.{Listed, app-is}
 use Rattle.pool.proofs.Worlds.{take-world, kid-nonzero}

@@ -1,15 +1,15 @@
 -- One step down from a divided node to a child, and back up. Assumes nothing.
 use mathlib.Core.Path.{_≡_, refl, ap, sym, subst, _∙_}
 use mathlib.Core.Logic.{_≢_}
-use mathlib.Core.List.{List, [], _∷_, _++_}
-use Prim.Native.Nat.{ℕ, zero, suc, _+_, _-_, _*_, _/_, _%_, _<_, _≤_}
+use mathlib.Core.List.{List}
+use Prim.Native.Nat.{ℕ, suc, _+_, _*_, _<_, _≤_}
 use native.Mathlib.Omega.{arith}
 use lib.ListN.{length, getD, set, length-set}
 use lib.Seq.{getD-set-same, getD-set-other}
-use Rattle.pool.specs.Lists.{is, occ, sumOf}
-use Rattle.pool.specs.Writes.{Pool, both, kid, counted, lowered}
-use Rattle.pool.specs.Trees.{Node, leaf, branch, PTree, none, groupsAt, placesAt, size}
-use Rattle.pool.specs.Worlds.{Rep, Free, World, Same, Off, Frame}
+use Rattle.pool.specs.Lists.{occ, sumOf}
+use Rattle.pool.specs.Writes.{Pool, both, kid}
+use Rattle.pool.specs.Trees.{branch, PTree, none, groupsAt, placesAt, size}
+use Rattle.pool.specs.Worlds.{Rep, World, Same, Off, Frame}
 use Rattle.pool.proofs.Lists.{by-eq, pos, is-same, is-eq, sum-at, sum-two, sum-set}
 use Rattle.pool.proofs.Trees.{kid-inj, kid-same, kid-low}
 use Rattle.pool.proofs.Frames.{same-set, same-then, rep-agree, world-agree}

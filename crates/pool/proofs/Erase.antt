@@ -1,37 +1,25 @@
 -- A tree without its place numbers is the model's. Assumes nothing.
-use mathlib.Core.Path.{_≡_, refl, ap, ap₂, sym, subst, _∙_}
+use mathlib.Core.Path.{_≡_, refl, ap, ap₂, sym, _∙_}
 use mathlib.Core.Logic.{_≢_}
 use mathlib.Core.List.{List, [], _∷_, _++_, map, flatten}
-use Prim.Native.Nat.{ℕ, zero, suc, _+_, _*_, _<_, _≤_}
+use Prim.Native.Nat.{ℕ, zero, suc, _+_, _*_, _<_}
 use native.Mathlib.Omega.{arith}
 use lib.ListN.{length, getD, length-map, length-append, List·getD-map}
 use Rattle.model.specs.Trees as model
-use Rattle.model.specs.Trees.{Point, Tree, held, count, nodes, total, bag, joined}
-use Rattle.pool.specs.Lists.{is, occ, sumOf}
-use Rattle.pool.specs.Trees.{Node, leaf, branch, PTree, flat, flats, none, placesAt, size, erase, joinedIn}
+use Rattle.model.specs.Trees.{Point, held, count, nodes, total, bag, joined}
+use Rattle.pool.specs.Lists.{occ, sumOf}
+use Rattle.pool.specs.Trees.{leaf, branch, PTree, flat, flats, none, placesAt, size, erase, joinedIn}
 use Rattle.model.proofs.Counts.{held-bag}
 use Rattle.pool.proofs.Lists.{is-same, sum-at}
-use Rattle.pool.proofs.Trees.{flats-at}
+use Rattle.pool.proofs.Trees.{flats-at, Full, groupCount}
 
-map-append : {A B : Type 0} (f : A → B) (l m : List A) → map f (l ++ m) ≡ map f l ++ map f m
+pub map-append : {A B : Type 0} (f : A → B) (l m : List A) → map f (l ++ m) ≡ map f l ++ map f m
 map-append f [] m = refl
 map-append f (q ∷ l) m = ap (λ s. f q ∷ s) (map-append f l m)
 
 map-same : {A B : Type 0} (f g : A → B) (l : List A) (z : A) → ((c : ℕ) → c < length l → f (getD l c z) ≡ g (getD l c z)) → map f l ≡ map g l
 map-same f g [] z h = refl
 map-same f g (q ∷ l) z h = ap₂ (λ a s. a ∷ s) (h 0 (omega arith)) (map-same f g l z (λ c lt. h (suc c) (omega arith)))
-
--- every divided node has all its children
-abbrev pub Full : (d : ℕ) → ℕ → PTree d → Type 0
-Full zero ways l = Unit {0}
-Full (suc d) ways (leaf l) = Unit {0}
-Full (suc d) ways (branch k ts) = (length ts ≡ ways) × ((c : ℕ) → c < ways → Full d ways (getD ts c (none d)))
-
--- how many groups a tree has
-abbrev pub groupCount : (d : ℕ) → PTree d → ℕ
-groupCount zero l = 0
-groupCount (suc d) (leaf l) = 0
-groupCount (suc d) (branch k ts) = suc (sumOf (groupCount d) ts)
 
 total-nil : total [] ≡ 0
 unfolding total

@@ -1,17 +1,18 @@
 -- Words that agree where a tree has its places hold the same tree. Assumes nothing.
-use mathlib.Core.Path.{_≡_, refl, ap, sym, subst, _∙_}
+use mathlib.Core.Path.{_≡_, refl, sym, subst, _∙_}
 use mathlib.Core.Logic.{_≢_}
-use mathlib.Core.List.{List, [], _∷_, _++_}
-use Prim.Native.Nat.{ℕ, zero, suc, _+_, _*_, _/_, _<_, _≤_}
+use mathlib.Core.List.{List, [], _∷_}
+use Prim.Native.Nat.{ℕ, zero, suc, _+_, _*_, _/_, _<_}
 use native.Mathlib.Omega.{arith}
 use lib.ListN.{length, getD, set}
 use lib.Seq.{getD-set-other}
-use Rattle.pool.specs.Lists.{is, occ, sumOf, lastOr, Chain}
-use Rattle.pool.specs.Writes.{Pool, both, kid}
-use Rattle.pool.specs.Trees.{Node, leaf, branch, PTree, flat, none, groupsAt, placesAt, size}
+use Rattle.pool.specs.Lists.{occ, Chain}
+use Rattle.pool.specs.Writes.{both, kid}
+use Rattle.pool.specs.Trees.{leaf, branch, PTree, flat, none, groupsAt, placesAt}
 use Rattle.pool.specs.Worlds.{RepLeaf, Rep, Free, World, Same}
-use Rattle.pool.proofs.Lists.{by-eq, is-same, sum-at}
+use Rattle.pool.proofs.Lists.{is-same, sum-at}
 use Rattle.pool.proofs.Chains.{chain-agree}
+use Rattle.pool.proofs.Trees.{Full}
 
 pub rep-flat : (d ways : ℕ) (n x : List ℕ) (i : ℕ) (l : List ℕ) → RepLeaf n x i l → Rep d ways n x i (flat d l)
 rep-flat zero ways n x i l r = r
@@ -20,6 +21,11 @@ rep-flat (suc d) ways n x i l r = r
 pub flat-rep : (d ways : ℕ) (n x : List ℕ) (i : ℕ) (l : List ℕ) → Rep d ways n x i (flat d l) → RepLeaf n x i l
 flat-rep zero ways n x i l r = r
 flat-rep (suc d) ways n x i l r = r
+
+pub rep-full : (d ways : ℕ) (n x : List ℕ) (i : ℕ) (t : PTree d) → Rep d ways n x i t → Full d ways t
+rep-full zero ways n x i l r = tt
+rep-full (suc d) ways n x i (leaf l) r = tt
+rep-full (suc d) ways n x i (branch k ts) r = (r .4, λ c lt. rep-full d ways n x (kid ways k c) (getD ts c (none d)) (r .5 c lt))
 
 -- ---- nodes
 pub same-set : (n : List ℕ) (w v i : ℕ) → w / 4 ≢ i → Same (set n w v) n i

@@ -1,20 +1,20 @@
 -- Lists joined in a row, and a divided node that becomes undivided. Assumes nothing.
 use mathlib.Core.Path.{_≡_, refl, ap, sym, subst, _∙_}
 use mathlib.Core.Logic.{_≢_}
-use mathlib.Core.List.{List, [], _∷_, _++_, map, flatten, append-assoc}
+use mathlib.Core.List.{List, [], _∷_, _++_, flatten, append-assoc}
 use Prim.Native.Nat.{ℕ, zero, suc, _+_, _-_, _*_, _<_, _≤_}
 use native.Mathlib.Omega.{arith}
 use lib.ListN.{length, getD, set, length-set, length-append, length-map}
-use lib.Seq.{getD-set-same, getD-set-other, lt-length-set}
-use Rattle.pool.specs.Lists.{ifz, is, occ, sumOf, lastOr, Chain}
+use lib.Seq.{getD-set-same, getD-set-other}
+use Rattle.pool.specs.Lists.{is, occ, sumOf, lastOr, Chain}
 use Rattle.pool.specs.Writes.{Pool, both, kid, given, Row, row, hooked, either, joining, laid, merged}
-use Rattle.pool.specs.Trees.{Node, leaf, branch, PTree, flat, flats, none, groupsAt, placesAt, size, joinedIn}
-use Rattle.pool.specs.Worlds.{RepLeaf, Rep, Free, World, Same, Off, Frame}
+use Rattle.pool.specs.Trees.{leaf, branch, flat, flats, placesAt, joinedIn}
+use Rattle.pool.specs.Worlds.{RepLeaf, Rep, Free, World, Same, Frame}
 use Rattle.pool.specs.Meanings.{upFrom, Once, Merges}
-use Rattle.pool.proofs.Lists.{by-eq, by-lt, pos, ifz-yes, ifz-no, is-same, is-other, is-eq, occ-append, sum-at}
-use Rattle.pool.proofs.Chains.{chain-agree, occ-last, last-append, link, no-zero, last-nonzero}
-use Rattle.pool.proofs.Trees.{flats-groups, flats-places, flats-size, flats-at, kid-inj, kid-low}
-use Rattle.pool.proofs.Frames.{flat-rep, same-set, same-refl, same-then, free-agree}
+use Rattle.pool.proofs.Lists.{append-nil, by-eq, by-lt, pos, ifz-yes, ifz-no, is-same, is-other, occ-append}
+use Rattle.pool.proofs.Chains.{chain-agree, occ-last, last-append, link, last-nonzero}
+use Rattle.pool.proofs.Trees.{flats-groups, flats-places, flats-size, flats-at}
+use Rattle.pool.proofs.Frames.{flat-rep, same-set, same-then, free-agree}
 use Rattle.pool.proofs.Worlds.{no-place-zero, give-free, given-length, given-same}
 
 -- ---- two lists
@@ -42,10 +42,6 @@ hook-second x b f e = by-eq b 0 (λ z. ifz-yes b _ _ z) (λ z. ifz-no b _ _ z �
 hook-both : (x : List ℕ) (b f : ℕ) → b ≢ 0 → f ≢ 0 → hooked x b f ≡ set x b f
 unfolding hooked
 hook-both x b f zb zf = ifz-no b _ _ zb ∙ ifz-no f _ _ zf
-
-append-nil : (a : List ℕ) → a ++ [] ≡ a
-append-nil [] = refl
-append-nil (x ∷ a) = ap (λ s. x ∷ s) (append-nil a)
 
 pub record Joined (x : List ℕ) (r : Row) (l : List ℕ) (own : ℕ → ℕ) : Type 0 where
   pub chain : Chain (r .links) (r .first) l

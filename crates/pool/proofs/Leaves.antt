@@ -2,15 +2,15 @@
 use mathlib.Core.Path.{_≡_, refl, ap, sym, subst, _∙_}
 use mathlib.Core.Logic.{_≢_}
 use mathlib.Core.List.{List, [], _∷_, _++_}
-use Prim.Native.Nat.{ℕ, zero, suc, _+_, _-_, _*_, _/_, _%_, _<_, _≤_}
+use Prim.Native.Nat.{ℕ, zero, suc, _+_, _-_, _*_, _%_, _<_, _≤_}
 use native.Mathlib.Omega.{arith}
 use lib.ListN.{length, getD, set, length-set, length-append}
 use lib.Seq.{getD-set-same, getD-set-other, lt-length-set}
-use Rattle.pool.specs.Lists.{ifz, is, occ, lastOr, Chain}
+use Rattle.pool.specs.Lists.{occ, lastOr, Chain}
 use Rattle.pool.specs.Writes.{Pool, both, counted, lowered, ended, appended, relasted, cutOut}
 use Rattle.pool.specs.Worlds.{RepLeaf, Same}
-use Rattle.pool.proofs.Lists.{by-eq, pos, ifz-yes, ifz-no, is-same, is-other, is-eq, occ-append}
-use Rattle.pool.proofs.Chains.{chain-agree, chain-set, occ-last, last-append, link, no-zero, last-nonzero}
+use Rattle.pool.proofs.Lists.{append-nil, by-eq, ifz-yes, ifz-no, is-same, is-other, is-eq, occ-append}
+use Rattle.pool.proofs.Chains.{chain-set, occ-last, last-append, link, no-zero, last-nonzero}
 use Rattle.pool.proofs.Frames.{same-set, same-refl, same-then}
 
 -- what a write to the list of one undivided node keeps and makes
@@ -66,7 +66,7 @@ ended-words n i p h =
       getD-set-same m (4 * i + 3) v 0 (lt-length-set n (4 * i + 2) p h) ∙ ap (λ u. (u + 1) % 4294967296) (getD-set-other n (4 * i + 2) (4 * i + 3) p 0 (λ e. absurd (omega arith))),
     )
 
-up-is : (v k : ℕ) → v ≡ k → k + 1 < 4294967296 → (v + 1) % 4294967296 ≡ suc k
+pub up-is : (v k : ℕ) → v ≡ k → k + 1 < 4294967296 → (v + 1) % 4294967296 ≡ suc k
 up-is v k e h = omega arith
 
 -- the two ways of appending, by whether there was a last place
@@ -149,10 +149,6 @@ relast-none n i after b h z = ap (λ s. getD s (4 * i + 2) 0) (ifz-yes after (se
 relast-some : (n : List ℕ) (i after b : ℕ) → after ≢ 0 → getD (relasted n i after b) (4 * i + 2) 0 ≡ getD n (4 * i + 2) 0
 unfolding relasted
 relast-some n i after b z = ap (λ s. getD s (4 * i + 2) 0) (ifz-no after (set n (4 * i + 2) b) n z)
-
-append-nil : (a : List ℕ) → a ++ [] ≡ a
-append-nil [] = refl
-append-nil (x ∷ a) = ap (λ s. x ∷ s) (append-nil a)
 
 cut-chain : (m l x : List ℕ) (h q p : ℕ) → Chain x h (q ∷ (m ++ (p ∷ l))) → ((v : ℕ) → occ v (q ∷ (m ++ (p ∷ l))) ≤ 1) → Chain (set x (lastOr q m) (getD x p 0)) h (q ∷ (m ++ l))
 cut-chain [] l x h q p c o = (

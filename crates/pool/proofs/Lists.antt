@@ -1,9 +1,9 @@
 -- Laws of occurrences and sums. Assumes nothing.
-use mathlib.Core.Path.{_≡_, refl, ap, sym, _∙_}
+use mathlib.Core.Path.{_≡_, refl, ap, subst, _∙_}
 use mathlib.Core.Logic.{_≢_}
 use mathlib.Core.Bool.{Bool, true, false}
 use mathlib.Core.List.{List, [], _∷_, _++_}
-use Prim.Native.Nat.{ℕ, zero, suc, _+_, _-_, _*_, _<_, _≤_}
+use Prim.Native.Nat.{ℕ, zero, suc, _+_, _<_, _≤_}
 use native.Mathlib.Omega.{arith}
 use native.Mathlib.Decide.{ℕ-discrete}
 use lib.Dec.{ltb}
@@ -34,6 +34,16 @@ pub ifz-no {ℓ} : {A : Type ℓ} (n : ℕ) (a b : A) → n ≢ 0 → ifz n a b 
 ifz-no zero a b e = absurd (e refl)
 ifz-no (suc n) a b e = refl
 
+-- ---- a fact about a number that is written as a sum
+pub at-zero : (P : ℕ → Type 0) (j : ℕ) → P (j + 0) → P j
+at-zero P j h = let e : j + 0 ≡ j = omega arith in subst P e h
+
+pub at-suc : (P : ℕ → Type 0) (j k : ℕ) → P (j + suc k) → P (suc j + k)
+at-suc P j k h = let e : j + suc k ≡ suc j + k = omega arith in subst P e h
+
+pub from-zero : (P : ℕ → Type 0) (k : ℕ) → P k → P (0 + k)
+from-zero P k h = let e : k ≡ 0 + k = omega arith in subst P e h
+
 -- ---- how often
 pub is-same : (i : ℕ) → is i i ≡ 1
 unfolding is
@@ -46,12 +56,13 @@ is-other i j h = rw (ne-eqb i j h)
 pub is-eq : (i j : ℕ) → i ≡ j → is i j ≡ 1
 is-eq i j e = ap (λ k. is k j) e ∙ is-same j
 
-pub is-le : (i j : ℕ) → is i j ≤ 1
-is-le i j = by-eq i j (λ e. omega (arith, is-eq i j e)) (λ e. omega (arith, is-other i j e))
-
 pub occ-append : (p : ℕ) (l m : List ℕ) → occ p (l ++ m) ≡ occ p l + occ p m
 occ-append p [] m = omega arith
 occ-append p (q ∷ l) m = omega (arith, occ-append p l m)
+
+pub append-nil : (a : List ℕ) → a ++ [] ≡ a
+append-nil [] = refl
+append-nil (x ∷ a) = ap (λ s. x ∷ s) (append-nil a)
 
 -- ---- sums
 module _ {K : Type 0} where

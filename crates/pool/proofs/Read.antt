@@ -1,13 +1,12 @@
 -- Reading a tree from any words finds the one that they hold. Assumes nothing.
 use mathlib.Core.Path.{_≡_, refl, ap, sym, _∙_}
-use mathlib.Core.Logic.{_≢_}
 use mathlib.Core.List.{List, [], _∷_}
 use Prim.Native.Nat.{ℕ, zero, suc, _+_, _*_, _<_, _≤_}
 use native.Mathlib.Omega.{arith}
 use lib.ListN.{length, getD}
-use Rattle.pool.specs.Lists.{ifz, occ, sumOf, Chain}
+use Rattle.pool.specs.Lists.{occ, Chain}
 use Rattle.pool.specs.Writes.{Pool, kid}
-use Rattle.pool.specs.Trees.{Node, leaf, branch, PTree, none, placesAt}
+use Rattle.pool.specs.Trees.{leaf, branch, PTree, none, placesAt}
 use Rattle.pool.specs.Worlds.{RepLeaf, Rep, World}
 use Rattle.pool.specs.Read.{chain, upTo, read}
 use Rattle.pool.proofs.Lists.{ifz-yes, ifz-no, sum-at}

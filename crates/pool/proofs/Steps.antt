@@ -1,15 +1,14 @@
 -- Each way through the code, in terms of what is written. Assumes nothing.
-use mathlib.Core.Path.{_≡_, refl, ap, ap₂, sym, subst, _∙_}
+use mathlib.Core.Path.{_≡_, ap, ap₂, sym, subst, _∙_}
 use mathlib.Core.Logic.{_≢_}
-use mathlib.Core.List.{List, [], _∷_}
-use Prim.Native.Nat.{ℕ, zero, suc, _+_, _-_, _*_, _/_, _%_, _<_, _≤_}
+use mathlib.Core.List.{List}
+use Prim.Native.Nat.{ℕ, zero, suc, _+_, _-_, _*_, _%_, _<_, _≤_}
 use native.Mathlib.Omega.{arith}
 use lib.ListN.{length, getD, set}
 use lib.Seq.{set-getD}
 use Rattle.words.specs.Words.{words}
-use Rattle.words.proofs.Words.{length-words, words-out, words-set-out}
-use Rattle.pool.specs.Lists.{ifz}
-use Rattle.pool.specs.Writes.{Pool, both, kid, counted, lowered, ended, appended, relasted, cutOut, popped, pushed, taken, given}
+use Rattle.words.proofs.Words.{words-out, words-set-out}
+use Rattle.pool.specs.Writes.{both, kid, counted, lowered, ended, appended, relasted, cutOut, popped, pushed, taken, given}
 use Rattle.pool.specs.Meanings.{Appends, Cuts, TakesPlace, GivesPlace, TakesGroup, GivesGroup}
 use Rattle.pool.proofs.Lists.{ifz-yes, ifz-no}
 use Rattle.pool.proofs.Leaves.{app-first, app-later, cut-first, cut-later}

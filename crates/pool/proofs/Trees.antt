@@ -1,13 +1,13 @@
 -- Laws of trees with place numbers, without any words. Assumes nothing.
-use mathlib.Core.Path.{_≡_, refl, ap, sym, subst, _∙_}
+use mathlib.Core.Path.{_≡_, refl, ap}
 use mathlib.Core.Logic.{_≢_}
-use mathlib.Core.List.{List, [], _∷_, _++_, map}
-use Prim.Native.Nat.{ℕ, zero, suc, _+_, _*_, _<_, _≤_}
+use mathlib.Core.List.{List, [], _∷_}
+use Prim.Native.Nat.{ℕ, zero, suc, _*_, _<_, _≤_}
 use native.Mathlib.Omega.{arith}
-use lib.ListN.{length, getD, set, length-map, List·getD-map}
+use lib.ListN.{length, getD, List·getD-map}
 use Rattle.pool.specs.Lists.{occ, sumOf}
 use Rattle.pool.specs.Writes.{kid}
-use Rattle.pool.specs.Trees.{Node, leaf, branch, PTree, flat, flats, none, groupsAt, placesAt, size}
+use Rattle.pool.specs.Trees.{leaf, branch, PTree, flat, flats, none, groupsAt, placesAt, size}
 
 pub groups-flat : (d g : ℕ) (l : List ℕ) → groupsAt d g (flat d l) ≡ 0
 groups-flat zero g l = refl
@@ -36,6 +36,30 @@ flats-size d (l ∷ ls) = omega (arith, size-flat d l, flats-size d ls)
 
 pub flats-at : (d : ℕ) (ls : List (List ℕ)) (c : ℕ) → getD (flats d ls) c (none d) ≡ flat d (getD ls c [])
 flats-at d ls c = List·getD-map (flat d) ls c []
+
+-- ---- every divided node has all its children
+abbrev pub Full : (d : ℕ) → ℕ → PTree d → Type 0
+Full zero ways l = Unit {0}
+Full (suc d) ways (leaf l) = Unit {0}
+Full (suc d) ways (branch k ts) = (length ts ≡ ways) × ((c : ℕ) → c < ways → Full d ways (getD ts c (none d)))
+
+pub flat-full : (d ways : ℕ) (l : List ℕ) → Full d ways (flat d l)
+flat-full zero ways l = tt
+flat-full (suc d) ways l = tt
+
+-- how many groups a tree has
+abbrev pub groupCount : (d : ℕ) → PTree d → ℕ
+groupCount zero l = 0
+groupCount (suc d) (leaf l) = 0
+groupCount (suc d) (branch k ts) = suc (sumOf (groupCount d) ts)
+
+pub count-flat : (d : ℕ) (l : List ℕ) → groupCount d (flat d l) ≡ 0
+count-flat zero l = refl
+count-flat (suc d) l = refl
+
+pub flats-count : (d : ℕ) (ls : List (List ℕ)) → sumOf (groupCount d) (flats d ls) ≡ 0
+flats-count d [] = refl
+flats-count d (l ∷ ls) = omega (arith, count-flat d l, flats-count d ls)
 
 -- ---- the nodes of a group
 pub kid-inj : (ways g h c e : ℕ) → c < ways → e < ways → kid ways g c ≡ kid ways h e → g ≡ h

@@ -1,22 +1,22 @@
 -- Lists, free places and free groups of a tree in the pool. Assumes nothing.
 use mathlib.Core.Path.{_≡_, refl, ap, sym, subst, _∙_}
 use mathlib.Core.Logic.{_≢_}
-use mathlib.Core.Bool.{Bool, true, false}
+use mathlib.Core.Bool.{false}
 use mathlib.Core.List.{List, [], _∷_, _++_}
-use Prim.Native.Nat.{ℕ, zero, suc, _+_, _-_, _*_, _/_, _%_, _<_, _≤_}
+use Prim.Native.Nat.{ℕ, zero, suc, _+_, _*_, _<_, _≤_}
 use native.Mathlib.Omega.{arith}
 use lib.Dec.{leb, leb·zero, leb·suc-zero, leb·suc-suc}
-use lib.ListN.{length, getD, set, length-set, length-append}
+use lib.ListN.{length, getD, set, length-set}
 use lib.Seq.{getD-set-same, getD-set-other, lt-length-set, set-getD}
-use Rattle.pool.specs.Lists.{ifz, is, occ, sumOf, lastOr, Chain}
+use Rattle.pool.specs.Lists.{ifz, occ, sumOf, Chain}
 use Rattle.pool.specs.Writes.{Pool, both, kid, appended, cutOut, popped, pushed, taken, given, enough}
-use Rattle.pool.specs.Trees.{Node, leaf, branch, PTree, flat, none, groupsAt, placesAt, size}
-use Rattle.pool.specs.Worlds.{RepLeaf, Rep, Free, World, Same, Off, Frame, Ready}
+use Rattle.pool.specs.Trees.{leaf, branch, PTree, flat, none, groupsAt, placesAt}
+use Rattle.pool.specs.Worlds.{RepLeaf, Rep, Free, World, Same, Frame}
 use Rattle.pool.specs.Meanings.{Appends, Cuts, TakesPlace, GivesPlace, TakesGroup, GivesGroup, Tells}
-use Rattle.pool.proofs.Lists.{by-eq, pos, ifz-yes, ifz-no, is-same, is-other, is-eq, occ-append, sum-at, sum-none}
+use Rattle.pool.proofs.Lists.{by-eq, pos, ifz-yes, ifz-no, is-other, is-eq, occ-append}
 use Rattle.pool.proofs.Chains.{chain-agree, chain-set, no-zero}
 use Rattle.pool.proofs.Trees.{groups-flat, places-flat, size-flat, kid-inj, kid-low}
-use Rattle.pool.proofs.Frames.{rep-flat, flat-rep, same-set, same-refl, same-then, rep-agree, free-agree, world-agree}
+use Rattle.pool.proofs.Frames.{rep-flat, flat-rep, same-set, same-refl, same-then, rep-agree, free-agree}
 use Rattle.pool.proofs.Leaves.{Listed, app-is, cut-is}
 
 -- ---- a new list in node i

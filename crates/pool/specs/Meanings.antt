@@ -3,9 +3,9 @@ use mathlib.Core.Path.{_≡_}
 use mathlib.Core.Logic.{_≢_}
 use mathlib.Core.Bool.{Bool}
 use mathlib.Core.List.{List, [], _∷_, _++_}
-use Prim.Native.Nat.{ℕ, zero, suc, _+_, _-_, _*_, _/_, _<_, _≤_, min}
+use Prim.Native.Nat.{ℕ, zero, suc, _+_, _-_, _*_, _/_, _<_, _≤_}
 use lib.Dec.{leb}
-use lib.ListN.{length, getD}
+use lib.ListN.{length}
 use Rattle.pool.specs.Lists.{occ, sumOf, lastOr}
 use Rattle.pool.specs.Writes.{Pool, both, kid, named}
 use Rattle.pool.specs.Trees.{leaf, branch, PTree, flat, flats, none, groupsAt, placesAt, dealt, joinedIn}

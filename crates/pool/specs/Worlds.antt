@@ -6,7 +6,7 @@ use Prim.Native.Nat.{ℕ, zero, suc, _+_, _*_, _<_, _≤_}
 use lib.ListN.{length, getD}
 use Rattle.pool.specs.Lists.{occ, sumOf, lastOr, Chain}
 use Rattle.pool.specs.Writes.{Pool, kid}
-use Rattle.pool.specs.Trees.{Node, leaf, branch, PTree, none, groupsAt, placesAt, size}
+use Rattle.pool.specs.Trees.{leaf, branch, PTree, none, groupsAt, placesAt, size}
 
 -- node i is undivided and has this list
 abbrev pub RepLeaf : List ℕ → List ℕ → ℕ → List ℕ → Type 0

@@ -2,10 +2,10 @@
 // `ways` is how many children a node has, so that both trees use the same functions. Nothing here knows of coordinates.
 // Every function is total: a place or a node that is not there reads as 0 and is not written, and a walk has no more steps than there are words.
 ghost use mathlib.Core.Path.{_≡_};
-ghost use Prim.Native.Nat.{ℕ, _+_, _-_, _*_, _/_, _%_, _<_, _≤_};
-ghost use lib.ListN.{length, getD, set};
+ghost use Prim.Native.Nat.{_+_, _-_, _*_, _%_, _<_};
+ghost use lib.ListN.{getD, set};
 ghost use Rattle.words.specs.Words.{words};
-ghost use Rattle.pool.specs.Writes.{Pool, both, pool, kid, counted, lowered, ended, appended, relasted, cutOut, popped, pushed, taken, given};
+ghost use Rattle.pool.specs.Writes.{pool, kid, counted, lowered, ended, appended, relasted, cutOut, popped, pushed, taken, given};
 ghost use Rattle.pool.specs.Meanings.{Appends, Cuts, TakesPlace, GivesPlace, TakesGroup, GivesGroup};
 use words::get;
 use words::put;

@@ -1,6 +1,6 @@
 // Numbers in lent bytes, low byte first. A place outside the slice reads as 0 and is not written, so every function is total.
 ghost use mathlib.Core.Path.{_≡_};
-ghost use Prim.Native.Nat.{ℕ, _+_, _*_, _/_, _%_, _<_};
+ghost use Prim.Native.Nat.{_+_, _*_, _/_, _%_, _<_};
 ghost use lib.ListN.{length, getD, set};
 ghost use lib.Ieee.{binary64, ofBits, toBits};
 ghost use Rattle.words.specs.Words.{le4, words, pairs, setPair};

@@ -99,7 +99,7 @@ fn simplify(group: &mut Group, comes_out: impl Fn(&[f64], usize) -> bool) {
 }
 
 /// The lists in which one number is plainer, wherever it stands or at one place alone.
-fn plainer(numbers: &[f64]) -> Vec<Vec<f64>> {
+pub fn plainer(numbers: &[f64]) -> Vec<Vec<f64>> {
     let mut lists = Vec::new();
     for (place, old) in numbers.iter().enumerate() {
         for new in PLAIN.into_iter().filter(|new| cost(*new) < cost(*old)) {

@@ -1,8 +1,6 @@
 //! Compares our compiled geometry with the Rust's and with document 01's words, bit for bit.
 //! The word MILLIONS says how many inputs each function gets.
 
-mod probe;
-
 use oracle::bits::answer_bits;
 use oracle::check::Report;
 use oracle::compare::{run as compare, Tally, Verdict};
@@ -18,7 +16,7 @@ fn main() -> ExitCode {
     };
     let mut report = Report::default();
     let functions = all().into_iter().chain(conversions());
-    for (function, ours) in functions.zip(probe::all()) {
+    for (function, ours) in functions.zip(ours::geometry::all()) {
         one(&mut report, &function, ours, millions * 1_000_000);
     }
     if report.all_passed() {

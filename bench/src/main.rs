@@ -1,0 +1,40 @@
+//! Our library against the Rust: the same inputs, in one process, by turns. Words:
+//!   check   tries whether both sides give the same, and takes no time
+//!   FILE    prints the table, and writes it to FILE as CSV
+
+mod benchmark;
+mod knn;
+mod measure;
+mod table;
+
+use benchmark::Benchmark;
+use std::process::ExitCode;
+
+/// Every benchmark, in the order of the table.
+fn all() -> Vec<Benchmark> {
+    knn::all()
+}
+
+fn main() -> ExitCode {
+    let words: Vec<String> = std::env::args().skip(1).collect();
+    let [word] = &words[..] else {
+        eprintln!("bench: the words are check, or the name of a file for the figures");
+        return ExitCode::from(2);
+    };
+    let all = all();
+    if let Some(wrong) = all.iter().find(|benchmark| !benchmark.agrees()) {
+        println!("FAILED bench: {wrong}: ours gives another answer than the Rust");
+        return ExitCode::FAILURE;
+    }
+    if word == "check" {
+        println!("ok bench ({} cases, both sides give the same)", all.len());
+        return ExitCode::SUCCESS;
+    }
+    let lines: Vec<_> = all.iter().map(|benchmark| (benchmark, measure::measure(benchmark))).collect();
+    table::print(&lines);
+    if let Err(error) = std::fs::write(word, table::csv(&lines)) {
+        eprintln!("bench: {word}: {error}");
+        return ExitCode::from(2);
+    }
+    ExitCode::SUCCESS
+}
