@@ -40,7 +40,7 @@ insert-full : (w cap d : ℕ) (b : List Side) (p : Point) (ps : List Point) → 
 unfolding insertS
 insert-full w cap d b p ps h = ap (λ (t : Bool). elim t as (λ u. Tree (suc d)) [ true ↦ model.leaf (ps ++ (p ∷ [])) | false ↦ model.branch (into d (insertS w cap d) b p (deal d b ps 0 w)) ]) (le-ltb (length ps) cap h)
 
-map-set : {A B : Type 0} (f : A → B) (ts : List A) (c : ℕ) (t : A) → map f (set ts c t) ≡ set (map f ts) c (f t)
+pub map-set : {A B : Type 0} (f : A → B) (ts : List A) (c : ℕ) (t : A) → map f (set ts c t) ≡ set (map f ts) c (f t)
 map-set f [] c t = refl
 map-set f (u ∷ ts) zero t = refl
 map-set f (u ∷ ts) (suc c) t = ap (λ s. f u ∷ s) (map-set f ts c t)
@@ -86,7 +86,7 @@ module _ (ways cap : ℕ) (pt : ℕ → Point) where
         left = omega (arith, e .1) }
 
   -- ---- into a divided node
-  child-erase : (d : ℕ) (ts : List (PTree d)) (c : ℕ) → getD (map (erase pt d) ts) c (bag d []) ≡ erase pt d (getD ts c (none d))
+  pub child-erase : (d : ℕ) (ts : List (PTree d)) (c : ℕ) → getD (map (erase pt d) ts) c (bag d []) ≡ erase pt d (getD ts c (none d))
   child-erase d ts c = ap (getD (map (erase pt d) ts) c) (sym (erase-flat pt d [])) ∙ List·getD-map (erase pt d) ts c (none d)
 
   need-branch : (d : ℕ) (b : List Side) (p g : ℕ) (ts : List (PTree d)) → needed cap (suc d) b (pt p) (erase pt (suc d) (branch g ts)) ≡ needed cap d (part b (route b (pt p .at))) (pt p) (erase pt d (getD ts (route b (pt p .at)) (none d)))

@@ -1,5 +1,6 @@
 pub mod Collects
 pub mod Descents
+pub mod Deletes
 pub mod Finds
 pub mod Inserts
 pub mod Seeks
