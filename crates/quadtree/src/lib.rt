@@ -1,4 +1,5 @@
 // The quadtree: quadtree.rs, over places in lent pieces.
+pub mod delete;
 pub mod descent;
 pub mod insert;
 pub mod nearest;
