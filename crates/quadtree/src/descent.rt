@@ -4,15 +4,18 @@ ghost use lib.ListN.{length};
 ghost use Rattle.words.specs.Words.{words};
 ghost use Rattle.geometry.specs.Sides.{place2, sides2};
 ghost use Rattle.trees.specs.Points.{pointAt};
+ghost use Rattle.model.specs.Boxes.{route};
 ghost use Rattle.model.specs.Trees.{same};
 ghost use Rattle.pool.specs.Read.{chain};
-ghost use Rattle.trees.proofs.Descents.{reach};
+ghost use Rattle.trees.proofs.Descents.{reach, together, Needs};
 ghost use Rattle.trees.proofs.Finds.{seek};
 use crate::place::payload;
 use crate::place::point_at;
 use geometry::plane::Point2D;
 use geometry::plane::Rectangle;
 use pool::child;
+use pool::count;
+use pool::first;
 use pool::group;
 use pool::next;
 
@@ -76,4 +79,50 @@ fn find_in(links: &[u8], points: &[u8], head: u32, point: Point2D, mark: u32) ->
         left -= 1;
     }
     Spot { place: 0, before: b }
+}
+
+// Whether all points of a list go to child c.
+fn all_go(links: &[u8], points: &[u8], head: u32, bounds: Rectangle, c: u8) -> bool
+    ensures { λ r. ⌜ r ≡ together (λ p. route (sides2 bounds) (pointAt 2 (words (now (points .entry))) p .at)) c (length (words (now (links .entry)))) (words (now (links .entry))) head ⌝ }
+{
+    let mut left = links.len() / 4;
+    let mut p = head;
+    while left > 0 {
+        if p == 0 {
+            return true;
+        }
+        let held = point_at(points, p);
+        let t = (bounds.child_index(held) % 4) as u8;
+        if t != c {
+            return false;
+        }
+        p = next(links, p);
+        left -= 1;
+    }
+    true
+}
+
+// How many groups the undivided node i takes when a point comes that goes to it.
+pub fn need(nodes: &[u8], links: &[u8], points: &[u8], i: usize, bounds: Rectangle, levels: u8, capacity: u32, point: Point2D) -> u8
+    ensures { λ r. ⌜ Needs capacity (pointAt 2 (words (now (points .entry)))) (place2 point) (words (now (nodes .entry))) (words (now (links .entry))) i levels (sides2 bounds) r ⌝ }
+{
+    let n = count(nodes, i);
+    if n < capacity {
+        return 0;
+    }
+    let head = first(nodes, i);
+    let mut b = bounds;
+    let mut left = levels;
+    let mut more: u8 = 0;
+    while left > 0 {
+        let c = (b.child_index(point) % 4) as u8;
+        let on = all_go(links, points, head, b, c);
+        if !on {
+            return more + 1;
+        }
+        b = b.child(c as usize);
+        more += 1;
+        left -= 1;
+    }
+    more
 }

@@ -10,7 +10,7 @@ use native.Mathlib.Omega.{arith}
 use lib.Dec.{T, eqb, ltb}
 use lib.Ieee.{Float}
 use lib.ListN.{length, getD, List·getD-map, length-map}
-use borrow.Author.Tests.{le-ltb, lt-ltb}
+use borrow.Author.Tests.{eq-eqb, le-ltb, ne-eqb}
 use Rattle.model.specs.Boxes.{Side, part, route}
 use Rattle.model.specs.Trees.{Point, Tree, bag}
 use Rattle.model.proofs.Counts.{part-length, route-lt}
@@ -22,6 +22,7 @@ use Rattle.pool.specs.Trees.{leaf, branch, PTree, none, erase, placesAt}
 use Rattle.pool.specs.Worlds.{RepLeaf, Rep}
 use Rattle.pool.specs.Writes.{kid}
 use Rattle.pool.proofs.Erase.{erase-flat}
+use Rattle.trees.proofs.Collects.{chain-step, chain-stop, list-chain}
 use Rattle.pool.proofs.Lists.{ifz-no, ifz-yes, sum-at}
 
 -- a node with its box and the levels below it
@@ -92,3 +93,105 @@ module _ (pt : ℕ → Point) where
 -- a route is the number of a child, so that a remainder changes nothing
 pub small-route : (b : List Side) (v : List Float) (ways r : ℕ) → 2 ^ length b ≡ ways → r ≡ route b v → r % ways ≡ route b v
 small-route b v ways r e er = ap (λ (m : ℕ). m % ways) er ∙ mod-eq-of-lt (subst (λ (m : ℕ). route b v < m) e (route-lt b v))
+
+-- ---- how often a full list splits
+-- whether all points of a chain go to child c
+unfoldable pub together : (ℕ → ℕ) → ℕ → ℕ → List ℕ → ℕ → Bool
+unfolding every chain
+together f c left x q = every (λ p. eqb (f p) c) (chain left x q)
+
+module _ (f : ℕ → ℕ) (c : ℕ) (x : List ℕ) where
+  pub together-stop : (left q : ℕ) → q ≡ 0 → together f c left x q ≡ true
+  unfolding together every
+  together-stop left q e = ap (every (λ p. eqb (f p) c)) (chain-stop left x q e)
+
+  pub together-end : (left q : ℕ) → left ≡ 0 → together f c left x q ≡ true
+  unfolding together every chain
+  together-end left q e = ap (λ (j : ℕ). every (λ p. eqb (f p) c) (chain j x q)) e
+
+  pub together-no : (left q t : ℕ) → 0 < left → q ≢ 0 → t ≡ f q → t ≢ c → together f c left x q ≡ false
+  unfolding together every
+  together-no left q t h nz e ne = ap (every (λ p. eqb (f p) c)) (chain-step left x q h nz) ∙ ap (λ (b : Bool). b && every (λ p. eqb (f p) c) (chain (left - 1) x (getD x q 0))) (ap (λ (u : ℕ). eqb u c) (sym e) ∙ ne-eqb t c ne)
+
+  pub together-next : (left q q' t : ℕ) → 0 < left → q ≢ 0 → t ≡ f q → t ≡ c → q' ≡ getD x q 0 → together f c left x q ≡ together f c (left - 1) x q'
+  unfolding together every
+  together-next left q q' t h nz e ec eq =
+      ap (every (λ p. eqb (f p) c)) (chain-step left x q h nz) ∙ ap (λ (b : Bool). b && every (λ p. eqb (f p) c) (chain (left - 1) x (getD x q 0))) (ap (λ (u : ℕ). eqb u c) (sym e) ∙ eq-eqb t c ec)
+      ∙ ap (λ (p : ℕ). every (λ p. eqb (f p) c) (chain (left - 1) x p)) (sym eq)
+
+every-at : (pt : ℕ → Point) (b : List Side) (c : ℕ) (l : List ℕ) → every (λ p. eqb (route b (pt p .at)) c) l ≡ every (goes b c) (map pt l)
+unfolding every
+every-at pt b c [] = refl
+every-at pt b c (q ∷ l) = ap (λ (t : Bool). eqb (route b (pt q .at)) c && t) (every-at pt b c l)
+
+-- the splits of a full list, level by level
+module _ (cap : ℕ) (p : Point) (ps : List Point) (full : cap ≤ length ps) where
+  split-by : (d : ℕ) (b : List Side) → splits cap (suc d) b p ps ≡ elim (every (goes b (route b (p .at))) ps) as (λ u. ℕ) [ true ↦ suc (splits cap d (part b (route b (p .at))) p ps) | false ↦ 1 ]
+  unfolding splits
+  split-by d b = ap (λ (t : Bool). elim t as (λ u. ℕ) [ true ↦ 0 | false ↦ elim (every (goes b (route b (p .at))) ps) as (λ u. ℕ) [ true ↦ suc (splits cap d (part b (route b (p .at))) p ps) | false ↦ 1 ] ]) (le-ltb (length ps) cap full)
+
+  pub splits-apart : (d : ℕ) (b : List Side) → 0 < d → every (goes b (route b (p .at))) ps ≡ false → splits cap d b p ps ≡ 1
+  splits-apart zero b h e = absurd (omega arith)
+  splits-apart (suc d) b h e = split-by d b ∙ ap (λ (t : Bool). elim t as (λ u. ℕ) [ true ↦ suc (splits cap d (part b (route b (p .at))) p ps) | false ↦ 1 ]) e
+
+  pub splits-on : (d : ℕ) (b b' : List Side) → 0 < d → every (goes b (route b (p .at))) ps ≡ true → b' ≡ part b (route b (p .at)) → splits cap d b p ps ≡ suc (splits cap (d - 1) b' p ps)
+  splits-on zero b b' h e eb = absurd (omega arith)
+  splits-on (suc d) b b' h e eb =
+      split-by d b ∙ ap (λ (t : Bool). elim t as (λ u. ℕ) [ true ↦ suc (splits cap d (part b (route b (p .at))) p ps) | false ↦ 1 ]) e
+      ∙ ap₂ (λ (j : ℕ) (u : List Side). suc (splits cap j u p ps)) (sym (sub-one (suc d))) (sym eb)
+
+pub splits-none : (cap : ℕ) (p : Point) (ps : List Point) (d : ℕ) (b : List Side) → d ≡ 0 → splits cap d b p ps ≡ 0
+unfolding splits
+splits-none cap p ps zero b e = refl
+splits-none cap p ps (suc d) b e = absurd (omega arith)
+
+-- ---- the count that an insertion makes before it writes
+module _ (cap : ℕ) (pt : ℕ → Point) (v : List Float) (n x : List ℕ) (i : ℕ) where
+  abbrev asked : ℕ → Point
+  asked m = record { at = v; payload = m }
+
+  unfoldable pub Needs : (d : ℕ) → List Side → ℕ → Type 0
+  unfolding splits
+  Needs d b r = (m : ℕ) (l : List ℕ) → RepLeaf n x i l → ((p : ℕ) → occ p l ≤ 1) → r ≡ splits cap d b (asked m) (map pt l)
+
+  pub needs-none : (d : ℕ) (b : List Side) → d ≡ 0 → Needs d b 0
+  unfolding Needs
+  needs-none d b e m l r u = sym (splits-none cap (asked m) (map pt l) d b e)
+
+  pub needs-room : (d : ℕ) (b : List Side) (c : ℕ) → c ≡ getD n (4 * i + 3) 0 → c < cap → Needs d b 0
+  unfolding Needs
+  needs-room d b c ec h m l r u = sym (splits-room cap d b (asked m) (map pt l) (omega (arith, ec, h, r .4, length-map l pt)))
+
+  -- after `more` splits, with `left` levels below the box e
+  pub record Counting (d : ℕ) (b : List Side) (left : ℕ) (e : List Side) (more : ℕ) : Type 0 where
+    pub few : more + left ≡ d
+    pub counts : (m : ℕ) (l : List ℕ) → RepLeaf n x i l → ((p : ℕ) → occ p l ≤ 1) → cap ≤ length l → more + splits cap left e (asked m) (map pt l) ≡ splits cap d b (asked m) (map pt l)
+
+  pub counting-start : (d : ℕ) (b : List Side) → Counting d b d b 0
+  counting-start d b = record { few = omega arith; counts = λ m l r u h. omega arith }
+
+  same-way : (b : List Side) (c h : ℕ) (t : Bool) (m : ℕ) (l : List ℕ) → RepLeaf n x i l → ((p : ℕ) → occ p l ≤ 1) → h ≡ getD n (4 * i + 1) 0 → c ≡ route b v → t ≡ together (λ p. route b (pt p .at)) c (length x) x h → t ≡ every (goes b (route b v)) (map pt l)
+  unfolding together
+  same-way b c h t m l r u eh ec e = e ∙ ap₂ (λ (j : ℕ) (k : List ℕ). every (λ p. eqb (route b (pt p .at)) j) k) ec (ap (chain (length x) x) eh ∙ list-chain n x i l r u) ∙ every-at pt b (route b v) l
+
+  pub counting-on : (d : ℕ) (b : List Side) (left : ℕ) (e e' : List Side) (more c h : ℕ) (t : Bool) → Counting d b left e more → 0 < left → h ≡ getD n (4 * i + 1) 0 → c ≡ route e v → t ≡ together (λ p. route e (pt p .at)) c (length x) x h → t ≡ true → e' ≡ part e c
+      → Counting d b (left - 1) e' (more + 1)
+  counting-on d b left e e' more c h t q hl eh ec et y ee = record {
+      few = omega (arith, q .few, hl);
+      counts = λ m l r u f. omega (arith, q .counts m l r u f, splits-on cap (asked m) (map pt l) (omega (arith, f, length-map l pt)) left e e' hl (sym (same-way e c h t m l r u eh ec et) ∙ y) (ee ∙ ap (part e) ec)) }
+
+  pub counting-apart : (d : ℕ) (b : List Side) (left : ℕ) (e : List Side) (more c h k : ℕ) (t : Bool) → Counting d b left e more → 0 < left → h ≡ getD n (4 * i + 1) 0 → c ≡ route e v → t ≡ together (λ p. route e (pt p .at)) c (length x) x h → t ≡ false
+      → k ≡ getD n (4 * i + 3) 0 → cap ≤ k → Needs d b (more + 1)
+  unfolding Needs
+  counting-apart d b left e more c h k t q hl eh ec et y ek f m l r u =
+      let g : cap ≤ length l = omega (arith, ek, f, r .4) in
+      omega (arith, q .counts m l r u g, splits-apart cap (asked m) (map pt l) (omega (arith, g, length-map l pt)) left e hl (sym (same-way e c h t m l r u eh ec et) ∙ y))
+
+  pub counting-end : (d : ℕ) (b : List Side) (left : ℕ) (e : List Side) (more k : ℕ) → Counting d b left e more → left ≡ 0 → k ≡ getD n (4 * i + 3) 0 → cap ≤ k → Needs d b more
+  unfolding Needs
+  counting-end d b left e more k q z ek f m l r u =
+      let g : cap ≤ length l = omega (arith, ek, f, r .4) in
+      omega (arith, q .counts m l r u g, splits-none cap (asked m) (map pt l) left e z)
+
+pub together-whole : (f : ℕ → ℕ) (c fuel all : ℕ) (x : List ℕ) (h : ℕ) (t : Bool) → all ≡ fuel → t ≡ together f c fuel x h → t ≡ together f c all x h
+together-whole f c fuel all x h t e q = q ∙ ap (λ (j : ℕ). together f c j x h) (sym e)
