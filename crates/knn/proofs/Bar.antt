@@ -83,11 +83,11 @@ skip-of : (n : ℕ) (ds : List Float) (ps : List ℕ) (x : Float) (l m : ℕ) �
     → lt (bar m (take n ds)) x ≡ not (ltb (length (entries n ds ps)) m) && worst (λ w. lt w x) (entries n ds ps)
 skip-of n ds ps x l m one ld lp et ee here there = by-lt l m
     (λ h. ap (λ (w : Float). lt w x) (bar-room m (take n ds) (omega (arith, h, here))) ∙ not-above x
-      ∙ ap₂ (λ (b c : Bool). not b && c) (sym (lt-ltb (length (entries n ds ps)) m (omega (arith, h, there)))) refl)
+    ∙ ap₂ (λ (b c : Bool). not b && c) (sym (lt-ltb (length (entries n ds ps)) m (omega (arith, h, there)))) refl)
     (λ h. let s : l ≡ suc (l - 1) = omega (arith, h, one) in
-      ap (λ (w : Float). lt w x) (bar-full m (take n ds) (omega (arith, h, here)) ∙ ap (lastOr (inf true)) (et ∙ ap (λ (j : ℕ). take j ds) s) ∙ last-taken (inf true) (l - 1) ds (omega (arith, s, ld)))
-      ∙ ap₂ (λ (b c : Bool). not b && c) (sym (le-ltb (length (entries n ds ps)) m (omega (arith, h, there))))
-        (sym (ap (worst (λ w. lt w x)) (ee ∙ ap (λ (j : ℕ). entries j ds ps) s) ∙ entries-worst (λ w. lt w x) (l - 1) ds ps (omega (arith, s, ld)) (omega (arith, s, lp)))))
+    ap (λ (w : Float). lt w x) (bar-full m (take n ds) (omega (arith, h, here)) ∙ ap (lastOr (inf true)) (et ∙ ap (λ (j : ℕ). take j ds) s) ∙ last-taken (inf true) (l - 1) ds (omega (arith, s, ld)))
+    ∙ ap₂ (λ (b c : Bool). not b && c) (sym (le-ltb (length (entries n ds ps)) m (omega (arith, h, there))))
+    (sym (ap (worst (λ w. lt w x)) (ee ∙ ap (λ (j : ℕ). entries j ds ps) s) ∙ entries-worst (λ w. lt w x) (l - 1) ds ps (omega (arith, s, ld)) (omega (arith, s, lp)))))
 
 pub skip-is : (n k : ℕ) (ds : List Float) (ps : List ℕ) (x : Float) → length ds ≡ length ps → 1 ≤ room k ds ps
     → lt (bar (min (min k 512) (length ds)) (take n ds)) x ≡ not (ltb (length (entries n ds ps)) (room k ds ps)) && worst (λ w. lt w x) (entries n ds ps)

@@ -94,6 +94,7 @@ splits-more cap d b p ps h k =
   where
     i : ℕ
     i = route b (p .at)
+
     by : (t : Bool) → (T t → keep (goes b i) ps ≡ ps) → (T (not t) → length (keep (goes b i) ps) < length ps)
         → elim t as (λ u. ℕ) [ true ↦ suc (splits cap d (part b i) p ps) | false ↦ 1 ] ≡ suc (splits cap d (part b i) p (keep (goes b i) ps))
     by true a f = ap (λ (l : List Point). suc (splits cap d (part b i) p l)) (sym (a tt))

@@ -11,8 +11,4 @@ pub mod Steps
 pub mod Down
 pub mod Read
 pub mod Erase
-pub mod Insert
-pub mod Delete
-pub mod Changes
-pub mod Need
 pub mod Theorems

@@ -1,5 +1,5 @@
 -- Laws of occurrences and sums. Assumes nothing.
-use mathlib.Core.Path.{_≡_, refl, ap, subst, _∙_}
+use mathlib.Core.Path.{_≡_, refl, ap, _∙_}
 use mathlib.Core.Logic.{_≢_}
 use mathlib.Core.Bool.{Bool, true, false}
 use mathlib.Core.List.{List, [], _∷_, _++_}
@@ -33,16 +33,6 @@ ifz-yes (suc n) a b e = absurd (omega arith)
 pub ifz-no {ℓ} : {A : Type ℓ} (n : ℕ) (a b : A) → n ≢ 0 → ifz n a b ≡ b
 ifz-no zero a b e = absurd (e refl)
 ifz-no (suc n) a b e = refl
-
--- ---- a fact about a number that is written as a sum
-pub at-zero : (P : ℕ → Type 0) (j : ℕ) → P (j + 0) → P j
-at-zero P j h = let e : j + 0 ≡ j = omega arith in subst P e h
-
-pub at-suc : (P : ℕ → Type 0) (j k : ℕ) → P (j + suc k) → P (suc j + k)
-at-suc P j k h = let e : j + suc k ≡ suc j + k = omega arith in subst P e h
-
-pub from-zero : (P : ℕ → Type 0) (k : ℕ) → P k → P (0 + k)
-from-zero P k h = let e : k ≡ 0 + k = omega arith in subst P e h
 
 -- ---- how often
 pub is-same : (i : ℕ) → is i i ≡ 1

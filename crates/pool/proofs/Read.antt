@@ -25,7 +25,7 @@ unfolding upTo
 upTo-is [] z f h = refl
 upTo-is (t ∷ ts) z f h = ap (λ s. s ∷ upTo (length ts) (λ c. f (suc c))) (h 0 (omega arith)) ∙ ap (λ s. t ∷ s) (upTo-is ts z (λ c. f (suc c)) (λ c lt. h (suc c) (omega arith)))
 
-list-is : (n x : List ℕ) (i : ℕ) (l : List ℕ) → RepLeaf n x i l → ((p : ℕ) → occ p l ≤ 1) → chain (length x) x (getD n (4 * i + 1) 0) ≡ l
+pub list-is : (n x : List ℕ) (i : ℕ) (l : List ℕ) → RepLeaf n x i l → ((p : ℕ) → occ p l ≤ 1) → chain (length x) x (getD n (4 * i + 1) 0) ≡ l
 list-is n x i l r o = chain-is l x (length x) (getD n (4 * i + 1) 0) (r .2) (chain-short l x (getD n (4 * i + 1) 0) (r .2) o)
 
 pub read-is : (d ways : ℕ) (n x : List ℕ) (i : ℕ) (t : PTree d) → Rep d ways n x i t → ((p : ℕ) → placesAt d p t ≤ 1) → read d ways n x i ≡ t

@@ -1,24 +1,17 @@
 -- What a tree crate and a reader ask of the pool. Assumes nothing.
-use mathlib.Core.Path.{_≡_, refl, ap, sym, _∙_}
-use mathlib.Core.List.{List, [], _∷_, map}
+use mathlib.Core.Path.{_≡_, refl, ap}
+use mathlib.Core.List.{List, [], _∷_}
 use Prim.Native.Nat.{ℕ, zero, suc, _+_, _*_, _<_, _≤_}
 use native.Mathlib.Omega.{arith}
-use lib.ListN.{length, getD, set, length-set, length-map}
+use lib.ListN.{length, getD, set, length-set}
 use lib.Seq.{getD-set-same}
-use Rattle.model.specs.Trees as model
-use Rattle.model.specs.Trees.{Point, count}
-use Rattle.model.specs.Soundness.{All, AllOrNone, LeavesFit, BranchesFull}
 use Rattle.pool.specs.Lists.{is, occ, sumOf, Chain}
 use Rattle.pool.specs.Writes.{Pool, kid, pushed, given}
-use Rattle.pool.specs.Trees.{leaf, branch, PTree, none, placesAt, size, erase}
+use Rattle.pool.specs.Trees.{leaf, branch, PTree, none, placesAt, size}
 use Rattle.pool.specs.Worlds.{Rep, World}
-use Rattle.pool.specs.Changes.{Tight}
 use Rattle.pool.proofs.Lists.{by-eq, is-eq}
-use Rattle.pool.proofs.Trees.{Full}
 use Rattle.pool.proofs.Worlds.{no-place-zero}
 use Rattle.pool.proofs.Chains.{no-zero}
-use Rattle.pool.proofs.Changes.{Fit}
-use Rattle.pool.proofs.Erase.{erase-count}
 
 -- ---- freed places and groups are used again: the next one that is taken
 pub freed-place-next : (x : List ℕ) (p : ℕ) → 0 < length x → getD (pushed x p) 0 0 ≡ p
@@ -81,35 +74,3 @@ places-enough d ways s i t fl fp m e w =
   where
     none-zero : placesAt d 0 t + occ 0 fp ≡ 0
     none-zero = omega (arith, no-place-zero d ways (s .nodes) (s .links) i t (w .rep), no-zero fp (s .links) (getD (s .links) 0 0) (w .spare))
-
--- ---- what the model's soundness says of a tree with place numbers
-all-at : {A K : Type 0} (P : A → Type 0) (f : K → A) (ts : List K) (c : ℕ) (z : K) → c < length ts → All P (map f ts) → P (f (getD ts c z))
-all-at P f [] c z lt a = absurd (omega arith)
-all-at P f (t ∷ ts) zero z lt a = a .0
-all-at P f (t ∷ ts) (suc c) z lt a = all-at P f ts c z (omega arith) (a .1)
-
-module _ (at : ℕ → Point) (ways cap : ℕ) where
-  pub full-of : (d : ℕ) (t : PTree d) → AllOrNone ways d (erase at d t) → Full d ways t
-  unfolding erase
-  full-of zero l h = tt
-  full-of (suc d) (leaf l) h = tt
-  full-of (suc d) (branch k ts) h = (el, λ c lc. full-of d (getD ts c (none d)) (all-at (AllOrNone ways d) (erase at d) ts c (none d) (omega (arith, lc, el)) (h .1)))
-    where
-      el : length ts ≡ ways
-      el = sym (length-map ts (erase at d)) ∙ h .0
-
-  pub fit-of : (d : ℕ) (t : PTree d) → Full d ways t → LeavesFit cap d (erase at d t) → Fit d ways cap t
-  unfolding erase
-  fit-of zero l f h = tt
-  fit-of (suc d) (leaf l) f h = omega (arith, h, length-map l at)
-  fit-of (suc d) (branch k ts) f h = λ c lc. fit-of d (getD ts c (none d)) (f .1 c lc) (all-at (LeavesFit cap d) (erase at d) ts c (none d) (omega (arith, lc, f .0)) h)
-
-  pub tight-of : (d : ℕ) (t : PTree d) → Full d ways t → BranchesFull cap d (erase at d t) → Tight d ways cap t
-  unfolding erase
-  tight-of zero l f h = tt
-  tight-of (suc d) (leaf l) f h = tt
-  tight-of (suc d) (branch k ts) f h =
-      (omega (arith, h .0, counts), λ c lc. tight-of d (getD ts c (none d)) (f .1 c lc) (all-at (BranchesFull cap d) (erase at d) ts c (none d) (omega (arith, lc, f .0)) (h .1)))
-    where
-      counts : count (suc d) (model.branch (map (erase at d) ts)) ≡ sumOf (size d) ts
-      counts = erase-count at (suc d) (branch k ts)

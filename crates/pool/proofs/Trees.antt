@@ -57,10 +57,6 @@ pub count-flat : (d : ℕ) (l : List ℕ) → groupCount d (flat d l) ≡ 0
 count-flat zero l = refl
 count-flat (suc d) l = refl
 
-pub flats-count : (d : ℕ) (ls : List (List ℕ)) → sumOf (groupCount d) (flats d ls) ≡ 0
-flats-count d [] = refl
-flats-count d (l ∷ ls) = omega (arith, count-flat d l, flats-count d ls)
-
 -- ---- the nodes of a group
 pub kid-inj : (ways g h c e : ℕ) → c < ways → e < ways → kid ways g c ≡ kid ways h e → g ≡ h
 kid-inj ways zero zero c e lc le q = refl

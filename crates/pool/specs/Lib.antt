@@ -4,5 +4,4 @@ pub mod Writes
 pub mod Trees
 pub mod Worlds
 pub mod Meanings
-pub mod Changes
 pub mod Read

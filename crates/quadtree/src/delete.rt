@@ -25,7 +25,19 @@ fn join_children(nodes: &mut [u8], links: &mut [u8], i: usize, k: u32)
 }
 
 // Takes place p, which holds a point equal to this one, out of the tree at node i; b stands before it in its list, or 0.
-pub fn delete_within(nodes: &mut [u8], links: &mut [u8], i: usize, bounds: Rectangle, levels: u8, capacity: u32, point: Point2D, mark: u32, points: &[u8], p: u32, b: u32)
+pub fn delete_within(
+    nodes: &mut [u8],
+    links: &mut [u8],
+    i: usize,
+    bounds: Rectangle,
+    levels: u8,
+    capacity: u32,
+    point: Point2D,
+    mark: u32,
+    points: &[u8],
+    p: u32,
+    b: u32,
+)
     ensures { λ _. ⌜ Deletes 4 capacity (1 ∷ 0 ∷ 3 ∷ 2 ∷ []) (pointAt 2 (words (now (points .entry)))) (record { at = place2 point; payload = mark }) levels (sides2 bounds) (pool (now (nodes .entry)) (now (links .entry))) (pool (now (nodes .exit)) (now (links .exit))) i p b ⌝ }
 {
     let most = (capacity as u64) + 1;
@@ -43,7 +55,19 @@ pub fn delete_within(nodes: &mut [u8], links: &mut [u8], i: usize, bounds: Recta
     let j = child(4, k, c);
     let v = count(nodes, i);
     count_down(nodes, i);
-    delete_within(nodes, links, j, part, levels - 1, capacity, point, mark, points, p, b);
+    delete_within(
+        nodes,
+        links,
+        j,
+        part,
+        levels - 1,
+        capacity,
+        point,
+        mark,
+        points,
+        p,
+        b,
+    );
     if most < v as u64 {
         return;
     }

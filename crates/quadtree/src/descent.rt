@@ -36,14 +36,22 @@ pub fn leaf_of(nodes: &[u8], i: usize, bounds: Rectangle, levels: u8, point: Poi
     while left > 0 {
         let k = group(nodes, at);
         if k == 0 {
-            return Leaf { node: at, bounds: b, levels: left };
+            return Leaf {
+                node: at,
+                bounds: b,
+                levels: left,
+            };
         }
         let c = (b.child_index(point) % 4) as u8;
         at = child(4, k, c);
         b = b.child(c as usize);
         left -= 1;
     }
-    Leaf { node: at, bounds: b, levels: left }
+    Leaf {
+        node: at,
+        bounds: b,
+        levels: left,
+    }
 }
 
 // Where a point stands in its list: its place or 0, and the place before it or 0.
@@ -69,16 +77,25 @@ fn find_in(links: &[u8], points: &[u8], head: u32, point: Point2D, mark: u32) ->
     let mut b: u32 = 0;
     while left > 0 {
         if p == 0 {
-            return Spot { place: 0, before: b };
+            return Spot {
+                place: 0,
+                before: b,
+            };
         }
         if same_at(points, p, point, mark) {
-            return Spot { place: p, before: b };
+            return Spot {
+                place: p,
+                before: b,
+            };
         }
         b = p;
         p = next(links, p);
         left -= 1;
     }
-    Spot { place: 0, before: b }
+    Spot {
+        place: 0,
+        before: b,
+    }
 }
 
 // Whether all points of a list go to child c.
@@ -103,7 +120,16 @@ fn all_go(links: &[u8], points: &[u8], head: u32, bounds: Rectangle, c: u8) -> b
 }
 
 // How many groups the undivided node i takes when a point comes that goes to it.
-pub fn need(nodes: &[u8], links: &[u8], points: &[u8], i: usize, bounds: Rectangle, levels: u8, capacity: u32, point: Point2D) -> u8
+pub fn need(
+    nodes: &[u8],
+    links: &[u8],
+    points: &[u8],
+    i: usize,
+    bounds: Rectangle,
+    levels: u8,
+    capacity: u32,
+    point: Point2D,
+) -> u8
     ensures { λ r. ⌜ Needs capacity (pointAt 2 (words (now (points .entry)))) (place2 point) (words (now (nodes .entry))) (words (now (links .entry))) i levels (sides2 bounds) r ⌝ }
 {
     let n = count(nodes, i);

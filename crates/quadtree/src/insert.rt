@@ -73,7 +73,16 @@ fn enter(nodes: &mut [u8], i: usize, k: u32, c: u8) -> usize
 }
 
 // Puts place p, which holds a point that lies in this box, into the tree at node i.
-pub fn insert_within(nodes: &mut [u8], links: &mut [u8], points: &[u8], i: usize, bounds: Rectangle, levels: u8, capacity: u32, p: u32)
+pub fn insert_within(
+    nodes: &mut [u8],
+    links: &mut [u8],
+    points: &[u8],
+    i: usize,
+    bounds: Rectangle,
+    levels: u8,
+    capacity: u32,
+    p: u32,
+)
     ensures { λ _. ⌜ (length (words (now (links .entry))) ≤ 513 → Inserts 4 capacity (pointAt 2 (words (now (points .entry)))) levels (sides2 bounds) (pool (now (nodes .entry)) (now (links .entry))) (pool (now (nodes .exit)) (now (links .exit))) i p) ⌝ }
 {
     let k = group(nodes, i);

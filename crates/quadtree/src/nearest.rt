@@ -40,7 +40,16 @@ fn by_distance(bounds: Rectangle, target: Point2D) -> Order
 }
 
 // Offers the places of a list to the table: how many it then holds.
-fn offer_list(links: &[u8], points: &[u8], head: u32, target: Point2D, k: usize, dist: &mut [f64], item: &mut [u32], n: usize) -> usize
+fn offer_list(
+    links: &[u8],
+    points: &[u8],
+    head: u32,
+    target: Point2D,
+    k: usize,
+    dist: &mut [f64],
+    item: &mut [u32],
+    n: usize,
+) -> usize
     ensures { λ r. ⌜ Tables (offering (room k (now (dist .entry)) (now (item .entry))) (candidate (pointAt 2 (words (now (points .entry)))) (place2 target)) (length (words (now (links .entry)))) (words (now (links .entry))) head) (now (dist .entry)) (now (item .entry)) n (now (dist .exit)) (now (item .exit)) r ⌝ }
 {
     let mut left = links.len() / 4;
@@ -60,7 +69,19 @@ fn offer_list(links: &[u8], points: &[u8], head: u32, target: Point2D, k: usize,
 }
 
 // Offers the places of the tree at node i with this box and so many levels below it, nearest children first.
-pub fn knn_search_helper(nodes: &[u8], links: &[u8], points: &[u8], i: usize, bounds: Rectangle, levels: usize, target: Point2D, k: usize, dist: &mut [f64], item: &mut [u32], n: usize) -> usize
+pub fn knn_search_helper(
+    nodes: &[u8],
+    links: &[u8],
+    points: &[u8],
+    i: usize,
+    bounds: Rectangle,
+    levels: usize,
+    target: Point2D,
+    k: usize,
+    dist: &mut [f64],
+    item: &mut [u32],
+    n: usize,
+) -> usize
     ensures { λ r. ⌜ Seeks (pointAt 2 (words (now (points .entry)))) (place2 target) k 4 (words (now (nodes .entry))) (words (now (links .entry))) levels (sides2 bounds) i (now (dist .entry)) (now (item .entry)) n (now (dist .exit)) (now (item .exit)) r ⌝ }
 {
     let g = group(nodes, i);
@@ -87,7 +108,19 @@ pub fn knn_search_helper(nodes: &[u8], links: &[u8], points: &[u8], i: usize, bo
         let c = (which[j] % 4) as u8;
         let node = child(4, g, c);
         let part = bounds.child(c as usize);
-        m = knn_search_helper(nodes, links, points, node, part, below, target, k, dist, item, m);
+        m = knn_search_helper(
+            nodes,
+            links,
+            points,
+            node,
+            part,
+            below,
+            target,
+            k,
+            dist,
+            item,
+            m,
+        );
         j += 1;
     }
     m

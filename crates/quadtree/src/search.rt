@@ -9,9 +9,9 @@ ghost use Rattle.trees.specs.Points.{pointAt};
 ghost use Rattle.trees.proofs.Walks.{Notes};
 ghost use Rattle.trees.proofs.Collects.{Collects, passing};
 ghost use Rattle.quadtree.specs.Questions.{meets, takes};
+use crate::place::point_at;
 use geometry::plane::Point2D;
 use geometry::plane::Rectangle;
-use crate::place::point_at;
 use pool::child;
 use pool::first;
 use pool::group;
@@ -57,7 +57,14 @@ fn note(found: &mut [u32], n: usize, p: u32, yes: bool) -> usize
 }
 
 // Notes the places of a list whose points are asked for. A list has no more places than there are links.
-fn collect_list(links: &[u8], points: &[u8], head: u32, q: Question, found: &mut [u32], n: usize) -> usize
+fn collect_list(
+    links: &[u8],
+    points: &[u8],
+    head: u32,
+    q: Question,
+    found: &mut [u32],
+    n: usize,
+) -> usize
     ensures { λ r. ⌜ Notes (passing (λ p. takes q (pointAt 2 (words (now (points .entry))) p .at)) (length (words (now (links .entry)))) (words (now (links .entry))) head) (now (found .entry)) n (now (found .exit)) r ⌝ }
 {
     let mut left = links.len() / 4;
@@ -77,7 +84,17 @@ fn collect_list(links: &[u8], points: &[u8], head: u32, q: Question, found: &mut
 }
 
 // Notes, from number n on, the places of the points that are asked for, in the tree at node i with this box and so many levels below it.
-pub fn collect(nodes: &[u8], links: &[u8], points: &[u8], i: usize, bounds: Rectangle, levels: usize, q: Question, found: &mut [u32], n: usize) -> usize
+pub fn collect(
+    nodes: &[u8],
+    links: &[u8],
+    points: &[u8],
+    i: usize,
+    bounds: Rectangle,
+    levels: usize,
+    q: Question,
+    found: &mut [u32],
+    n: usize,
+) -> usize
     ensures { λ r. ⌜ Collects (meets q) (λ p. takes q (pointAt 2 (words (now (points .entry))) p .at)) 4 (words (now (nodes .entry))) (words (now (links .entry))) levels (sides2 bounds) i (now (found .entry)) n (now (found .exit)) r ⌝ }
 {
     if !reaches(q, bounds) {

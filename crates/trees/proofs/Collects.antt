@@ -1,5 +1,5 @@
 -- What the searches of a box or a radius promise of any words that hold a tree, and the steps by which they keep it. Assumes nothing.
-use mathlib.Core.Path.{_≡_, refl, ap, ap₂, sym, _∙_, subst}
+use mathlib.Core.Path.{_≡_, refl, ap, sym, _∙_, subst}
 use mathlib.Core.Logic.{_≢_}
 use mathlib.Core.Bool.{Bool, true, false, not, cond}
 use mathlib.Core.List.{List, [], _∷_, _++_, flatten}
@@ -12,13 +12,13 @@ use lib.Seq.{drop-cons}
 use Rattle.model.specs.Boxes.{Side, part}
 use Rattle.model.specs.Searches.{keep}
 use Rattle.model.proofs.Lists.{mapi}
-use Rattle.pool.specs.Lists.{occ, sumOf, Chain}
+use Rattle.pool.specs.Lists.{occ, sumOf}
 use Rattle.pool.specs.Read.{chain}
 use Rattle.pool.specs.Trees.{leaf, branch, PTree, none, placesAt}
 use Rattle.pool.specs.Worlds.{RepLeaf, Rep}
 use Rattle.pool.specs.Writes.{kid}
-use Rattle.pool.proofs.Chains.{chain-short}
 use Rattle.pool.proofs.Lists.{sum-at}
+use Rattle.pool.proofs.Read.{list-is}
 use Rattle.trees.proofs.Walks.{places, Notes, notes-none, notes-then}
 
 -- ---- one list
@@ -83,28 +83,18 @@ module _ (f : ℕ → Bool) (x : List ℕ) (fuel h : ℕ) (out : List ℕ) (n : 
   pub listing-step : (now : List ℕ) (left q m : ℕ) (now' : List ℕ) (q' m' : ℕ) (hit : Bool) → Listing f x fuel h out n now left q m → 0 < left → q ≢ 0 → hit ≡ f q → length now' ≡ length now
       → Notes (cond hit (q ∷ []) []) now m now' m' → q' ≡ getD x q 0 → Listing f x fuel h out n now' (left - 1) q' m'
   listing-step now left q m now' q' m' hit w hl hq ey e a eq = record {
-      same = e ∙ w .same;
-      noting = subst (λ (p : ℕ). Noting (passing f fuel x h) out n (passing f (left - 1) x p) now' m') (sym eq)
+    same = e ∙ w .same;
+    noting = subst (λ (p : ℕ). Noting (passing f fuel x h) out n (passing f (left - 1) x p) now' m') (sym eq)
         (noting-step (passing f fuel x h) out n (cond (f q) (q ∷ []) []) (passing f (left - 1) x (getD x q 0)) now m now' m' e
         (subst (λ (l : List ℕ). Noting (passing f fuel x h) out n l now m) (passing-step f left x q hl hq) (w .noting))
-        (subst (λ (t : Bool). Notes (cond t (q ∷ []) []) now m now' m') ey a)) }
+        (subst (λ (t : Bool). Notes (cond t (q ∷ []) []) now m now' m') ey a));
+  }
 
   pub listing-stop : (now : List ℕ) (left q m all : ℕ) → Listing f x fuel h out n now left q m → q ≡ 0 → all ≡ fuel → Notes (passing f all x h) out n now m
   listing-stop now left q m all w e ea = subst (λ (j : ℕ). Notes (passing f j x h) out n now m) (sym ea) (noting-end _ out n now m (subst (λ (l : List ℕ). Noting (passing f fuel x h) out n l now m) (passing-stop f left x q e) (w .noting)))
 
   pub listing-end : (now : List ℕ) (left q m all : ℕ) → Listing f x fuel h out n now left q m → left ≡ 0 → all ≡ fuel → Notes (passing f all x h) out n now m
   listing-end now left q m all w e ea = subst (λ (j : ℕ). Notes (passing f j x h) out n now m) (sym ea) (noting-end _ out n now m (subst (λ (l : List ℕ). Noting (passing f fuel x h) out n l now m) (ap (λ (j : ℕ). passing f j x q) e ∙ passing-none f x q) (w .noting)))
-
-chain-is : (l x : List ℕ) (f h : ℕ) → Chain x h l → length l ≤ f → chain f x h ≡ l
-unfolding chain
-chain-is [] x zero h c le = refl
-chain-is [] x (suc f) h c le = ap (chain (suc f) x) c
-chain-is (p ∷ l) x zero h c le = absurd (omega arith)
-chain-is (zero ∷ l) x (suc f) h c le = absurd (c .1 refl)
-chain-is (suc p ∷ l) x (suc f) h c le = ap (chain (suc f) x) (c .0) ∙ ap (λ (m : List ℕ). suc p ∷ m) (chain-is l x f (getD x (suc p) 0) (c .3) (omega arith))
-
-pub list-chain : (n x : List ℕ) (i : ℕ) (l : List ℕ) → RepLeaf n x i l → ((p : ℕ) → occ p l ≤ 1) → chain (length x) x (getD n (4 * i + 1) 0) ≡ l
-list-chain n x i l r u = chain-is l x (length x) (getD n (4 * i + 1) 0) (r .2) (chain-short l x (getD n (4 * i + 1) 0) (r .2) u)
 
 -- what a test said, where the code asks for its contrary
 pub said-no : (a b : Bool) → a ≡ b → not a ≡ true → b ≡ false
@@ -144,15 +134,15 @@ module _ (go : List Side → Bool) (f : ℕ → Bool) (ways : ℕ) (n x : List �
   collects-skip (suc d) b i out m e (leaf l) r u = subst (λ l. Notes l out m out m) (sym (shut (go b) _ e)) (notes-none out m)
   collects-skip (suc d) b i out m e (branch k ts) r u = subst (λ l. Notes l out m out m) (sym (shut (go b) _ e)) (notes-none out m)
 
-  list-is : (i : ℕ) (l : List ℕ) → RepLeaf n x i l → ((p : ℕ) → occ p l ≤ 1) → passing f (length x) x (getD n (4 * i + 1) 0) ≡ keep f l
+  kept-is : (i : ℕ) (l : List ℕ) → RepLeaf n x i l → ((p : ℕ) → occ p l ≤ 1) → passing f (length x) x (getD n (4 * i + 1) 0) ≡ keep f l
   unfolding passing
-  list-is i l r u = ap (keep f) (list-chain n x i l r u)
+  kept-is i l r u = ap (keep f) (list-is n x i l r u)
 
   pub collects-list : (d : ℕ) (b : List Side) (i k h : ℕ) (out : List ℕ) (m : ℕ) (out' : List ℕ) (r : ℕ) → go b ≡ true → k ≡ getD n (4 * i) 0 → k ≡ 0 → h ≡ getD n (4 * i + 1) 0
       → Notes (passing f (length x) x h) out m out' r → Collects d b i out m out' r
   unfolding Collects places
-  collects-list zero b i k h out m out' r e ek z eh w l q u = subst (λ s. Notes s out m out' r) (ap (passing f (length x) x) eh ∙ list-is i l q u ∙ sym (opened (go b) _ e)) w
-  collects-list (suc d) b i k h out m out' r e ek z eh w (leaf l) q u = subst (λ s. Notes s out m out' r) (ap (passing f (length x) x) eh ∙ list-is i l q u ∙ sym (opened (go b) _ e)) w
+  collects-list zero b i k h out m out' r e ek z eh w l q u = subst (λ s. Notes s out m out' r) (ap (passing f (length x) x) eh ∙ kept-is i l q u ∙ sym (opened (go b) _ e)) w
+  collects-list (suc d) b i k h out m out' r e ek z eh w (leaf l) q u = subst (λ s. Notes s out m out' r) (ap (passing f (length x) x) eh ∙ kept-is i l q u ∙ sym (opened (go b) _ e)) w
   collects-list (suc d) b i k h out m out' r e ek z eh w (branch g ts) q u = absurd (q .2 (sym (q .1) ∙ sym ek ∙ z))
 
   pub collects-none : (d : ℕ) (b : List Side) (i k : ℕ) (out : List ℕ) (m : ℕ) → k ≡ getD n (4 * i) 0 → k ≢ 0 → d ≡ 0 → Collects d b i out m out m

@@ -6,20 +6,19 @@ use mathlib.Core.List.{List, [], _∷_, _++_, map, flatten}
 use Prim.Native.Nat.{ℕ, zero, suc, _+_, _*_, _-_, _^_, _<_, _≤_}
 use native.Mathlib.Numerals.{sub-one}
 use native.Mathlib.Omega.{arith}
-use lib.Dec.{T, leb}
-use lib.ListN.{length, getD, set, length-set, length-map, length-append, List·getD-map}
+use lib.ListN.{length, getD, set, length-map, length-append}
 use lib.Seq.{getD-set-same, getD-set-other}
 use borrow.Author.Tests.{le-leb, lt-leb}
 use Rattle.model.specs.Boxes.{Side, part, route}
-use Rattle.model.specs.Trees.{Point, Tree, bag, count, held, into, joined}
+use Rattle.model.specs.Trees.{Point, Tree, bag, count, held, into, joined, total}
 use Rattle.model.specs.Trees as model
 use Rattle.model.proofs.Counts.{Good, GoodChild, Order, chosen, delete-good, in-range, part-ways}
-use Rattle.model.proofs.Lists.{each-get}
+use Rattle.model.proofs.Lists.{each-get, from}
 use Rattle.model.proofs.Short.{deleteS, mergeS, withoutS}
 use Rattle.pool.specs.Lists.{is, occ, sumOf, lastOr}
-use Rattle.pool.specs.Meanings.{Cuts, Merges, Once}
+use Rattle.pool.specs.Meanings.{Cuts, Merges, Once, upFrom}
 use Rattle.pool.specs.Trees.{Node, leaf, branch, PTree, flat, flats, none, erase, groupsAt, placesAt, size, joinedIn}
-use Rattle.pool.specs.Worlds.{Rep, World, Frame}
+use Rattle.pool.specs.Worlds.{World, Frame}
 use Rattle.pool.specs.Writes.{Pool, both, kid, lowered}
 use Rattle.pool.proofs.Down.{back, down-counted}
 use Rattle.pool.proofs.Erase.{erase-count, erase-flat, erase-joined}
@@ -29,6 +28,20 @@ use Rattle.pool.proofs.Lists.{by-eq, occ-append, sum-at, sum-set}
 use Rattle.pool.proofs.Trees.{flats-groups, flats-places, flats-size, groups-flat, places-flat, size-flat}
 use Rattle.trees.proofs.Descents.{listAt}
 use Rattle.trees.proofs.Inserts.{child-erase, map-set}
+
+-- an order that has each number once, in the model's words and in those of the pool
+sum-total : (f : ℕ → ℕ) (l : List ℕ) → sumOf f l ≡ total (map f l)
+unfolding total
+sum-total f [] = refl
+sum-total f (c ∷ l) = ap (λ (n : ℕ). f c + n) (sum-total f l)
+
+up-from : (i n : ℕ) → upFrom i n ≡ from i n
+unfolding from
+up-from i zero = refl
+up-from i (suc n) = ap (λ (l : List ℕ). i ∷ l) (up-from (suc i) n)
+
+order-once : (ways : ℕ) (order : List ℕ) → Order ways order → Once ways order
+order-once ways order o f = sum-total f order ∙ o f ∙ sym (ap (sumOf f) (up-from 0 ways) ∙ sum-total f (from 0 ways))
 
 -- the list of an undivided node
 abbrev listOf : (d : ℕ) → PTree d → List ℕ
@@ -56,7 +69,7 @@ module _ (ways cap : ℕ) (order : List ℕ) (pt : ℕ → Point) (q : Point) wh
     pub gone : withoutS q (map pt (front ++ (p ∷ back))) ≡ map pt (front ++ back)
 
   unfoldable pub Deletes : (d : ℕ) → List Side → Pool → Pool → (i p before : ℕ) → Type 0
-  Deletes d b s r i p before = (t : PTree d) (fl fp : List ℕ) → World d ways s i t fl fp → 0 < ways → Once ways order → Order ways order → 2 ^ length b ≡ ways → Good ways cap d b (erase pt d t) → There d b p before t
+  Deletes d b s r i p before = (t : PTree d) (fl fp : List ℕ) → World d ways s i t fl fp → 0 < ways → Order ways order → 2 ^ length b ≡ ways → Good ways cap d b (erase pt d t) → There d b p before t
       → Shrunk d b s r i p t fl fp
 
   -- ---- out of a list
@@ -76,11 +89,15 @@ module _ (ways cap : ℕ) (order : List ℕ) (pt : ℕ → Point) (q : Point) wh
       let e = flat-there d b p before l h in
       let c = ct d ways (h .front) (h .back) fl fp lw (subst (λ (u : List ℕ). World d ways s i (flat d u) fl fp) e w) (h .behind) in
       record {
-        tree = flat d (h .front ++ h .back); free = fl; world = c .0; frame = subst (λ (u : List ℕ). Frame d ways s r i (flat d u) fl []) (sym e) (c .1);
+        tree = flat d (h .front ++ h .back);
+        free = fl;
+        world = c .0;
+        frame = subst (λ (u : List ℕ). Frame d ways s r i (flat d u) fl []) (sym e) (c .1);
         erased = erase-flat pt d (h .front ++ h .back) ∙ ap (bag d) (sym (ap (λ (u : List ℕ). withoutS q (map pt u)) e ∙ h .gone)) ∙ sym (flat-delete d b l);
         groups = λ g. omega (arith, groups-flat d g l, groups-flat d g (h .front ++ h .back));
         places = λ v. omega (arith, places-flat d v l, places-flat d v (h .front ++ h .back), ap (occ v) e, occ-append v (h .front) (p ∷ h .back), occ-append v (h .front) (h .back));
-        sizes = omega (arith, size-flat d l, size-flat d (h .front ++ h .back), ap length e, length-append (h .front) (p ∷ h .back), length-append (h .front) (h .back)) }
+        sizes = omega (arith, size-flat d l, size-flat d (h .front ++ h .back), ap length e, length-append (h .front) (p ∷ h .back), length-append (h .front) (h .back));
+      }
 
   -- ---- below a divided node, before it is looked at again
   module _ (d : ℕ) (b : List Side) (s r : Pool) (n : List ℕ) (i p before g : ℕ) (ts : List (PTree d)) (fl fp : List ℕ) (w : World (suc d) ways s i (branch g ts) fl fp) (eb : 2 ^ length b ≡ ways) where
@@ -115,22 +132,24 @@ module _ (ways cap : ℕ) (order : List ℕ) (pt : ℕ → Point) (q : Point) wh
     unfolding lowered into
     half sh en =
         let up = back d ways s i g ts fl fp w n r c (getD (s .nodes) (4 * i + 3) 0 - 1) (sh .tree) (sh .free) fp [] lc en
-          (omega (arith, w .rep .3, sh .sizes, sum-set (size d) ts c (sh .tree) (none d) lt)) (sh .groups) (λ v. omega (arith, sh .places v)) (λ v. omega (arith, w .places v)) (sh .world) (sh .frame) in
+        (omega (arith, w .rep .3, sh .sizes, sum-set (size d) ts c (sh .tree) (none d) lt)) (sh .groups) (λ v. omega (arith, sh .places v)) (λ v. omega (arith, w .places v)) (sh .world) (sh .frame) in
         record {
-          world = up .0; frame = up .1;
+          world = up .0;
+          frame = up .1;
           erased = map-set (erase pt d) ts c (sh .tree) ∙ ap (set (map (erase pt d) ts) c) (sh .erased ∙ ap (deleteS order cap d (part b c) q) (sym (child-erase ways cap pt d ts c)));
           groups = λ h. omega (arith, sh .groups h, sum-set (groupsAt d h) ts c (sh .tree) (none d) lt);
           places = λ v. omega (arith, sh .places v, sum-set (placesAt d v) ts c (sh .tree) (none d) lt);
-          sizes = omega (arith, sh .sizes, sum-set (size d) ts c (sh .tree) (none d) lt) }
+          sizes = omega (arith, sh .sizes, sum-set (size d) ts c (sh .tree) (none d) lt);
+        }
 
     -- every child is good afterwards too
     kids-good : (t' : PTree d) (e : ℕ) → e < ways → Order ways order → Good ways cap (suc d) b (erase pt (suc d) (branch g ts)) → erase pt d t' ≡ deleteS order cap d (part b c) q (erase pt d (getD ts c (none d))) → Good ways cap d (part b e) (erase pt d (getD (set ts c t') e (none d)))
     unfolding erase
     kids-good t' e le od gd et = by-eq e c
         (λ k. subst (λ (u : ℕ). Good ways cap d (part b u) (erase pt d (getD (set ts c t') u (none d)))) (sym k)
-          (subst (λ (u : PTree d). Good ways cap d (part b c) (erase pt d u)) (sym (getD-set-same ts c t' (none d) lt)) (subst (Good ways cap d (part b c)) (sym et) (delete-good ways cap order od d (part b c) q (erase pt d (getD ts c (none d))) (part-ways ways cap b c eb) (kid-good gd)))))
+        (subst (λ (u : PTree d). Good ways cap d (part b c) (erase pt d u)) (sym (getD-set-same ts c t' (none d) lt)) (subst (Good ways cap d (part b c)) (sym et) (delete-good ways cap order od d (part b c) q (erase pt d (getD ts c (none d))) (part-ways ways cap b c eb) (kid-good gd)))))
         (λ k. subst (λ (u : PTree d). Good ways cap d (part b e) (erase pt d u)) (sym (getD-set-other ts c e t' (none d) k))
-          (subst (λ (u : Tree d). Good ways cap d (part b e) u) (child-erase ways cap pt d ts e) (subst (λ (u : ℕ). Good ways cap d (part b u) (getD (map (erase pt d) ts) e (bag d []))) {x = 0 + e} {y = e} (omega arith) (each-get (GoodChild ways cap d b) (bag d []) 0 (map (erase pt d) ts) e (omega (arith, le, length-map ts (erase pt d), w .rep .4)) (gd .2) .1))))
+        (subst (λ (u : Tree d). Good ways cap d (part b e) u) (child-erase ways cap pt d ts e) (subst (λ (u : ℕ). Good ways cap d (part b u) (getD (map (erase pt d) ts) e (bag d []))) {x = 0 + e} {y = e} (omega arith) (each-get (GoodChild ways cap d b) (bag d []) 0 (map (erase pt d) ts) e (omega (arith, le, length-map ts (erase pt d), w .rep .4)) (gd .2) .1))))
 
   -- ---- a divided node is looked at again
   held-size : (d g : ℕ) (us : List (PTree d)) → length (flatten (map (held d) (map (erase pt d) us))) ≡ sumOf (size d) us
@@ -172,9 +191,15 @@ module _ (ways cap : ℕ) (order : List ℕ) (pt : ℕ → Point) (q : Point) wh
   branch-kept : (d : ℕ) (b : List Side) (s r : Pool) (n : List ℕ) (i p before g : ℕ) (ts : List (PTree d)) (fl fp : List ℕ) (w : World (suc d) ways s i (branch g ts) fl fp) (eb : 2 ^ length b ≡ ways) (t' : PTree d) (fl' : List ℕ)
       → Half d b s r n i p before g ts fl fp w eb t' fl' → cap < sumOf (size d) (set ts (route b (q .at)) t') → Shrunk (suc d) b s r i p (branch g ts) fl fp
   branch-kept d b s r n i p before g ts fl fp w eb t' fl' hf more = record {
-      tree = branch g (set ts (route b (q .at)) t'); free = fl'; world = hf .world; frame = hf .frame;
-      erased = branch-erase d g (set ts (route b (q .at)) t') ∙ sym (merge-keep d g (set ts (route b (q .at)) t') more) ∙ sym (delete-branch d b g ts (set ts (route b (q .at)) t') (hf .erased));
-      groups = hf .groups; places = hf .places; sizes = hf .sizes }
+    tree = branch g (set ts (route b (q .at)) t');
+    free = fl';
+    world = hf .world;
+    frame = hf .frame;
+    erased = branch-erase d g (set ts (route b (q .at)) t') ∙ sym (merge-keep d g (set ts (route b (q .at)) t') more) ∙ sym (delete-branch d b g ts (set ts (route b (q .at)) t') (hf .erased));
+    groups = hf .groups;
+    places = hf .places;
+    sizes = hf .sizes;
+  }
 
   branch-merged : (d : ℕ) (b : List Side) (s s1 r : Pool) (n : List ℕ) (i p before g : ℕ) (ts : List (PTree d)) (fl fp : List ℕ) (w : World (suc d) ways s i (branch g ts) fl fp) (eb : 2 ^ length b ≡ ways) (t' : PTree d) (fl' : List ℕ)
       → Half d b s s1 n i p before g ts fl fp w eb t' fl' → sumOf (size d) (set ts (route b (q .at)) t') ≤ cap → set ts (route b (q .at)) t' ≡ flats d (map (listOf d) (set ts (route b (q .at)) t')) → 0 < ways → Once ways order → Merges ways order s1 r i g
@@ -189,59 +214,64 @@ module _ (ways cap : ℕ) (order : List ℕ) (pt : ℕ → Point) (q : Point) wh
       let gr : (h : ℕ) → sumOf (groupsAt d h) us ≡ 0 = λ h. ap (sumOf (groupsAt d h)) fs ∙ flats-groups d h ls in
       let sz : sumOf (size d) us ≡ sumOf (λ (l : List ℕ). length l) ls = ap (sumOf (size d)) fs ∙ flats-size d ls in
       record {
-        tree = leaf (joinedIn order ls); free = g ∷ fl'; world = m .0;
+        tree = leaf (joinedIn order ls);
+        free = g ∷ fl';
+        world = m .0;
         frame = record {
-          len-n = m .1 .len-n ∙ hf .frame .len-n; len-x = m .1 .len-x ∙ hf .frame .len-x;
+          len-n = m .1 .len-n ∙ hf .frame .len-n;
+          len-x = m .1 .len-x ∙ hf .frame .len-x;
           nodes = λ v o. same-then (m .1 .nodes v (o .0, o .1, λ u f le z. omega (arith, o .2 u f le z, hf .groups u, gr u, flats-groups d u ls))) (hf .frame .nodes v o);
-          links = λ v z. m .1 .links v (omega (arith, z, hf .places v, pl v, flats-places d v ls)) ∙ hf .frame .links v z };
+          links = λ v z. m .1 .links v (omega (arith, z, hf .places v, pl v, flats-places d v ls)) ∙ hf .frame .links v z;
+        };
         erased = leaf-erase d (joinedIn order ls) ∙ ap model.leaf (erase-joined pt d order ls ∙ ap (λ (z : List (PTree d)). joined d order (map (erase pt d) z)) (sym fs)) ∙ sym (merge-join d g us few) ∙ sym (delete-branch d b g ts us (hf .erased));
         groups = λ h. omega (arith, hf .groups h, gr h);
         places = λ v. omega (arith, hf .places v, pl v, joined-sum (occ v) refl (λ a c. occ-append v a c) order ls, once-sum ways order od (occ v) ls ll);
-        sizes = omega (arith, hf .sizes, sz, joined-sum (λ (l : List ℕ). length l) refl (λ a c. length-append a c) order ls, once-sum ways order od (λ (l : List ℕ). length l) ls ll) }
+        sizes = omega (arith, hf .sizes, sz, joined-sum (λ (l : List ℕ). length l) refl (λ a c. length-append a c) order ls, once-sum ways order od (λ (l : List ℕ). length l) ls ll);
+      }
 
   -- ---- the ways of the code
   pub deletes-last : (d : ℕ) (b : List Side) (s r : Pool) (i p before : ℕ) → d ≡ 0 → Cuts s r i p before → Deletes d b s r i p before
   unfolding Deletes
-  deletes-last zero b s r i p before e ct l fl fp w lw od om eb gd h = cut-shrunk zero b s r i p before l fl fp ct w lw h
-  deletes-last (suc d) b s r i p before e ct t fl fp w lw od om eb gd h = absurd (omega arith)
+  deletes-last zero b s r i p before e ct l fl fp w lw om eb gd h = cut-shrunk zero b s r i p before l fl fp ct w lw h
+  deletes-last (suc d) b s r i p before e ct t fl fp w lw om eb gd h = absurd (omega arith)
 
   pub deletes-cut : (d : ℕ) (b : List Side) (s r : Pool) (i p before k : ℕ) → k ≡ getD (s .nodes) (4 * i) 0 → k ≡ 0 → Cuts s r i p before → Deletes d b s r i p before
   unfolding Deletes
-  deletes-cut zero b s r i p before k ek z ct l fl fp w lw od om eb gd h = cut-shrunk zero b s r i p before l fl fp ct w lw h
-  deletes-cut (suc d) b s r i p before k ek z ct (leaf l) fl fp w lw od om eb gd h = cut-shrunk (suc d) b s r i p before l fl fp ct w lw h
-  deletes-cut (suc d) b s r i p before k ek z ct (branch g ts) fl fp w lw od om eb gd h = absurd (w .rep .2 (sym (w .rep .1) ∙ sym ek ∙ z))
+  deletes-cut zero b s r i p before k ek z ct l fl fp w lw om eb gd h = cut-shrunk zero b s r i p before l fl fp ct w lw h
+  deletes-cut (suc d) b s r i p before k ek z ct (leaf l) fl fp w lw om eb gd h = cut-shrunk (suc d) b s r i p before l fl fp ct w lw h
+  deletes-cut (suc d) b s r i p before k ek z ct (branch g ts) fl fp w lw om eb gd h = absurd (w .rep .2 (sym (w .rep .1) ∙ sym ek ∙ z))
 
   deletes-same : (d d' : ℕ) (b b' : List Side) (s r : Pool) (j j' p before : ℕ) → d ≡ d' → b ≡ b' → j ≡ j' → Deletes d b s r j p before → Deletes d' b' s r j' p before
   deletes-same d d' b b' s r j j' p before ed eb ej z = subst (λ (u : ℕ). Deletes d' b' s r u p before) ej (subst (λ (u : List Side). Deletes d' u s r j p before) eb (subst (λ (u : ℕ). Deletes u b s r j p before) ed z))
 
-  below : (d : ℕ) (b : List Side) (s r : Pool) (n : List ℕ) (i p before g : ℕ) (ts : List (PTree d)) (fl fp : List ℕ) (w : World (suc d) ways s i (branch g ts) fl fp) (eb : 2 ^ length b ≡ ways) → 0 < ways → Once ways order → Order ways order
+  below : (d : ℕ) (b : List Side) (s r : Pool) (n : List ℕ) (i p before g : ℕ) (ts : List (PTree d)) (fl fp : List ℕ) (w : World (suc d) ways s i (branch g ts) fl fp) (eb : 2 ^ length b ≡ ways) → 0 < ways → Order ways order
       → Good ways cap (suc d) b (erase pt (suc d) (branch g ts)) → There (suc d) b p before (branch g ts) → n ≡ lowered (s .nodes) i → Deletes d (part b (route b (q .at))) (both n (s .links)) r (kid ways g (route b (q .at))) p before
       → Shrunk d (part b (route b (q .at))) (both n (s .links)) r (kid ways g (route b (q .at))) p (getD ts (route b (q .at)) (none d)) fl fp
   unfolding Deletes lowered
-  below d b s r n i p before g ts fl fp w eb lw od om gd h en go =
-      go (getD ts (route b (q .at)) (none d)) fl fp (down-counted d ways s i g ts fl fp w n (route b (q .at)) (getD (s .nodes) (4 * i + 3) 0 - 1) (in-range ways cap b q ways eb refl) en) lw od om (part-ways ways cap b (route b (q .at)) eb)
+  below d b s r n i p before g ts fl fp w eb lw om gd h en go =
+      go (getD ts (route b (q .at)) (none d)) fl fp (down-counted d ways s i g ts fl fp w n (route b (q .at)) (getD (s .nodes) (4 * i + 3) 0 - 1) (in-range ways cap b q ways eb refl) en) lw om (part-ways ways cap b (route b (q .at)) eb)
       (kid-good d b s r n i p before g ts fl fp w eb gd) (kid-there d b s r n i p before g ts fl fp w eb h)
 
   pub deletes-keep : (d : ℕ) (b b' : List Side) (s r : Pool) (n : List ℕ) (i p before k v c j : ℕ) → k ≡ getD (s .nodes) (4 * i) 0 → k ≢ 0 → d ≢ 0 → v ≡ getD (s .nodes) (4 * i + 3) 0 → n ≡ lowered (s .nodes) i → c ≡ route b (q .at) → j ≡ kid ways k c → b' ≡ part b c
       → Deletes (d - 1) b' (both n (s .links)) r j p before → cap + 1 < v → Deletes d b s r i p before
   unfolding Deletes
-  deletes-keep zero b b' s r n i p before k v c j ek nz dz ev en ec ej eb' go more t fl fp w lw od om eb gd h = absurd (dz refl)
-  deletes-keep (suc d) b b' s r n i p before k v c j ek nz dz ev en ec ej eb' go more (leaf l) fl fp w lw od om eb gd h = absurd (nz (ek ∙ w .rep .1))
-  deletes-keep (suc d) b b' s r n i p before k v c j ek nz dz ev en ec ej eb' go more (branch g ts) fl fp w lw od om eb gd h =
-      let sh = below d b s r n i p before g ts fl fp w eb lw od om gd h en (deletes-same (suc d - 1) d b' (part b (route b (q .at))) (both n (s .links)) r j (kid ways g (route b (q .at))) p before (sub-one (suc d)) (eb' ∙ ap (part b) ec) (ej ∙ ap₂ (kid ways) (ek ∙ w .rep .1) ec) go) in
+  deletes-keep zero b b' s r n i p before k v c j ek nz dz ev en ec ej eb' go more t fl fp w lw om eb gd h = absurd (dz refl)
+  deletes-keep (suc d) b b' s r n i p before k v c j ek nz dz ev en ec ej eb' go more (leaf l) fl fp w lw om eb gd h = absurd (nz (ek ∙ w .rep .1))
+  deletes-keep (suc d) b b' s r n i p before k v c j ek nz dz ev en ec ej eb' go more (branch g ts) fl fp w lw om eb gd h =
+      let sh = below d b s r n i p before g ts fl fp w eb lw om gd h en (deletes-same (suc d - 1) d b' (part b (route b (q .at))) (both n (s .links)) r j (kid ways g (route b (q .at))) p before (sub-one (suc d)) (eb' ∙ ap (part b) ec) (ej ∙ ap₂ (kid ways) (ek ∙ w .rep .1) ec) go) in
       let hf = half d b s r n i p before g ts fl fp w eb sh en in
       branch-kept d b s r n i p before g ts fl fp w eb (sh .tree) (sh .free) hf (omega (arith, more, ev, w .rep .3, hf .sizes))
 
   pub deletes-merge : (d : ℕ) (b b' : List Side) (s s1 r : Pool) (n : List ℕ) (i p before k v c j : ℕ) → k ≡ getD (s .nodes) (4 * i) 0 → k ≢ 0 → d ≢ 0 → v ≡ getD (s .nodes) (4 * i + 3) 0 → n ≡ lowered (s .nodes) i → c ≡ route b (q .at) → j ≡ kid ways k c → b' ≡ part b c
       → Deletes (d - 1) b' (both n (s .links)) s1 j p before → v ≤ cap + 1 → Merges ways order s1 r i k → Deletes d b s r i p before
   unfolding Deletes
-  deletes-merge zero b b' s s1 r n i p before k v c j ek nz dz ev en ec ej eb' go few mg t fl fp w lw od om eb gd h = absurd (dz refl)
-  deletes-merge (suc d) b b' s s1 r n i p before k v c j ek nz dz ev en ec ej eb' go few mg (leaf l) fl fp w lw od om eb gd h = absurd (nz (ek ∙ w .rep .1))
-  deletes-merge (suc d) b b' s s1 r n i p before k v c j ek nz dz ev en ec ej eb' go few mg (branch g ts) fl fp w lw od om eb gd h =
-      let sh = below d b s s1 n i p before g ts fl fp w eb lw od om gd h en (deletes-same (suc d - 1) d b' (part b (route b (q .at))) (both n (s .links)) s1 j (kid ways g (route b (q .at))) p before (sub-one (suc d)) (eb' ∙ ap (part b) ec) (ej ∙ ap₂ (kid ways) (ek ∙ w .rep .1) ec) go) in
+  deletes-merge zero b b' s s1 r n i p before k v c j ek nz dz ev en ec ej eb' go few mg t fl fp w lw om eb gd h = absurd (dz refl)
+  deletes-merge (suc d) b b' s s1 r n i p before k v c j ek nz dz ev en ec ej eb' go few mg (leaf l) fl fp w lw om eb gd h = absurd (nz (ek ∙ w .rep .1))
+  deletes-merge (suc d) b b' s s1 r n i p before k v c j ek nz dz ev en ec ej eb' go few mg (branch g ts) fl fp w lw om eb gd h =
+      let sh = below d b s s1 n i p before g ts fl fp w eb lw om gd h en (deletes-same (suc d - 1) d b' (part b (route b (q .at))) (both n (s .links)) s1 j (kid ways g (route b (q .at))) p before (sub-one (suc d)) (eb' ∙ ap (part b) ec) (ej ∙ ap₂ (kid ways) (ek ∙ w .rep .1) ec) go) in
       let hf = half d b s s1 n i p before g ts fl fp w eb sh en in
       let us = set ts (route b (q .at)) (sh .tree) in
       let all : sumOf (size d) us ≤ cap = omega (arith, few, ev, w .rep .3, hf .sizes) in
       branch-merged d b s s1 r n i p before g ts fl fp w eb (sh .tree) (sh .free) hf all
       (flats-of d us (λ e le. good-flat d (part b e) (getD us e (none d)) (kids-good d b s s1 n i p before g ts fl fp w eb (sh .tree) e (omega (arith, le, hf .world .rep .4)) om gd (sh .erased)) (omega (arith, all, sum-at (size d) us e (none d) le))))
-      lw od (subst (λ (u : ℕ). Merges ways order s1 r i u) (ek ∙ w .rep .1) mg)
+      lw (order-once ways order om) (subst (λ (u : ℕ). Merges ways order s1 r i u) (ek ∙ w .rep .1) mg)

@@ -1,28 +1,29 @@
 -- The way down to the undivided node that a point goes to, and what is found there. Over any number of ways. Assumes nothing.
 use mathlib.Core.Path.{_≡_, refl, ap, ap₂, sym, _∙_, subst}
 use mathlib.Core.Logic.{_≢_}
-use mathlib.Core.Bool.{Bool, true, false, not, _&&_}
-use mathlib.Core.List.{List, [], _∷_, _++_, map}
+use mathlib.Core.Bool.{Bool, true, false, _&&_}
+use mathlib.Core.List.{List, [], _∷_, map}
 use Prim.Native.Nat.{ℕ, zero, suc, _+_, _*_, _-_, _%_, _^_, _<_, _≤_}
 use native.Mathlib.Nat.{mod-eq-of-lt}
-use native.Mathlib.Numerals.{add-one, sub-one}
+use native.Mathlib.Numerals.{sub-one}
 use native.Mathlib.Omega.{arith}
-use lib.Dec.{T, eqb, ltb}
+use lib.Dec.{eqb}
 use lib.Ieee.{Float}
 use lib.ListN.{length, getD, List·getD-map, length-map}
 use borrow.Author.Tests.{eq-eqb, le-ltb, ne-eqb}
 use Rattle.model.specs.Boxes.{Side, part, route}
-use Rattle.model.specs.Trees.{Point, Tree, bag}
+use Rattle.model.specs.Trees.{Point, bag}
 use Rattle.model.proofs.Counts.{part-length, route-lt}
-use Rattle.model.proofs.Room.{every, needed, splits, splits-room}
+use Rattle.model.proofs.Room.{every, splits, splits-room}
 use Rattle.model.proofs.Short.{first, goes, taken}
-use Rattle.pool.specs.Lists.{ifz, occ, sumOf}
+use Rattle.pool.specs.Lists.{ifz, occ}
 use Rattle.pool.specs.Read.{chain}
 use Rattle.pool.specs.Trees.{leaf, branch, PTree, none, erase, placesAt}
 use Rattle.pool.specs.Worlds.{RepLeaf, Rep}
 use Rattle.pool.specs.Writes.{kid}
 use Rattle.pool.proofs.Erase.{erase-flat}
-use Rattle.trees.proofs.Collects.{chain-step, chain-stop, list-chain}
+use Rattle.pool.proofs.Read.{list-is}
+use Rattle.trees.proofs.Collects.{chain-step, chain-stop}
 use Rattle.pool.proofs.Lists.{ifz-no, ifz-yes, sum-at}
 
 -- a node with its box and the levels below it
@@ -154,10 +155,6 @@ module _ (cap : ℕ) (pt : ℕ → Point) (v : List Float) (n x : List ℕ) (i :
   unfolding splits
   Needs d b r = (m : ℕ) (l : List ℕ) → RepLeaf n x i l → ((p : ℕ) → occ p l ≤ 1) → r ≡ splits cap d b (asked m) (map pt l)
 
-  pub needs-none : (d : ℕ) (b : List Side) → d ≡ 0 → Needs d b 0
-  unfolding Needs
-  needs-none d b e m l r u = sym (splits-none cap (asked m) (map pt l) d b e)
-
   pub needs-room : (d : ℕ) (b : List Side) (c : ℕ) → c ≡ getD n (4 * i + 3) 0 → c < cap → Needs d b 0
   unfolding Needs
   needs-room d b c ec h m l r u = sym (splits-room cap d b (asked m) (map pt l) (omega (arith, ec, h, r .4, length-map l pt)))
@@ -172,13 +169,14 @@ module _ (cap : ℕ) (pt : ℕ → Point) (v : List Float) (n x : List ℕ) (i :
 
   same-way : (b : List Side) (c h : ℕ) (t : Bool) (m : ℕ) (l : List ℕ) → RepLeaf n x i l → ((p : ℕ) → occ p l ≤ 1) → h ≡ getD n (4 * i + 1) 0 → c ≡ route b v → t ≡ together (λ p. route b (pt p .at)) c (length x) x h → t ≡ every (goes b (route b v)) (map pt l)
   unfolding together
-  same-way b c h t m l r u eh ec e = e ∙ ap₂ (λ (j : ℕ) (k : List ℕ). every (λ p. eqb (route b (pt p .at)) j) k) ec (ap (chain (length x) x) eh ∙ list-chain n x i l r u) ∙ every-at pt b (route b v) l
+  same-way b c h t m l r u eh ec e = e ∙ ap₂ (λ (j : ℕ) (k : List ℕ). every (λ p. eqb (route b (pt p .at)) j) k) ec (ap (chain (length x) x) eh ∙ list-is n x i l r u) ∙ every-at pt b (route b v) l
 
   pub counting-on : (d : ℕ) (b : List Side) (left : ℕ) (e e' : List Side) (more c h : ℕ) (t : Bool) → Counting d b left e more → 0 < left → h ≡ getD n (4 * i + 1) 0 → c ≡ route e v → t ≡ together (λ p. route e (pt p .at)) c (length x) x h → t ≡ true → e' ≡ part e c
       → Counting d b (left - 1) e' (more + 1)
   counting-on d b left e e' more c h t q hl eh ec et y ee = record {
-      few = omega (arith, q .few, hl);
-      counts = λ m l r u f. omega (arith, q .counts m l r u f, splits-on cap (asked m) (map pt l) (omega (arith, f, length-map l pt)) left e e' hl (sym (same-way e c h t m l r u eh ec et) ∙ y) (ee ∙ ap (part e) ec)) }
+    few = omega (arith, q .few, hl);
+    counts = λ m l r u f. omega (arith, q .counts m l r u f, splits-on cap (asked m) (map pt l) (omega (arith, f, length-map l pt)) left e e' hl (sym (same-way e c h t m l r u eh ec et) ∙ y) (ee ∙ ap (part e) ec));
+  }
 
   pub counting-apart : (d : ℕ) (b : List Side) (left : ℕ) (e : List Side) (more c h k : ℕ) (t : Bool) → Counting d b left e more → 0 < left → h ≡ getD n (4 * i + 1) 0 → c ≡ route e v → t ≡ together (λ p. route e (pt p .at)) c (length x) x h → t ≡ false
       → k ≡ getD n (4 * i + 3) 0 → cap ≤ k → Needs d b (more + 1)

@@ -1,17 +1,16 @@
 -- The first place of a list that passes a test, and the place before it. Assumes nothing.
-use mathlib.Core.Path.{_≡_, refl, ap, ap₂, sym, _∙_, subst}
+use mathlib.Core.Path.{_≡_, refl, ap, ap₂, sym, _∙_}
 use mathlib.Core.Logic.{_≢_}
 use mathlib.Core.Bool.{Bool, true, false, not, _&&_}
 use mathlib.Core.List.{List, [], _∷_, _++_, map}
-use Prim.Native.Nat.{ℕ, zero, suc, _+_, _-_, _<_, _≤_}
+use Prim.Native.Nat.{ℕ, _+_, _-_, _<_}
 use native.Mathlib.Omega.{arith}
-use lib.Dec.{T, eqb}
+use lib.Dec.{eqb}
 use borrow.Author.Tests.{ne-eqb}
 use lib.Ieee.{Float}
-use lib.ListN.{length, getD}
+use lib.ListN.{getD}
 use Rattle.model.specs.Boxes.{samePlace}
 use Rattle.model.specs.Trees.{Point, same}
-use Rattle.model.proofs.Counts.{cond-same}
 use Rattle.model.proofs.Short.{filled, first, withoutS}
 use Rattle.pool.specs.Lists.{is, occ, lastOr}
 use Rattle.pool.specs.Read.{chain}

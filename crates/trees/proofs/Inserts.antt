@@ -1,12 +1,12 @@
 -- What an insertion does to a tree in words, one node at a time, and that it is the model's. Over any number of ways. Assumes nothing.
 use mathlib.Core.Path.{_≡_, refl, ap, ap₂, sym, _∙_, subst}
 use mathlib.Core.Logic.{_≢_, _⊎_, inl, inr}
-use mathlib.Core.Bool.{Bool, true, false, not, cond}
+use mathlib.Core.Bool.{Bool, true, false}
 use mathlib.Core.List.{List, [], _∷_, _++_, map, append-nil, append-assoc}
 use Prim.Native.Nat.{ℕ, zero, suc, _+_, _*_, _-_, _%_, _^_, _<_, _≤_}
-use native.Mathlib.Numerals.{add-one, sub-one}
+use native.Mathlib.Numerals.{sub-one}
 use native.Mathlib.Omega.{arith}
-use lib.Dec.{T, eqb, ltb}
+use lib.Dec.{eqb}
 use lib.ListN.{length, getD, set, length-set, length-map, length-append, List·getD-map, replicate, length-replicate, getD-replicate}
 use lib.Seq.{ext-getD, getD-set-same, getD-set-other}
 use borrow.Author.Tests.{eq-eqb, le-ltb, lt-ltb, ne-eqb}
@@ -14,14 +14,14 @@ use Rattle.model.specs.Boxes.{Side, part, route}
 use Rattle.model.specs.Searches.{keep}
 use Rattle.model.specs.Trees.{Point, Tree, bag, into}
 use Rattle.model.specs.Trees as model
-use Rattle.model.proofs.Counts.{Good, GoodChild, chosen, deal-good, deal-length, good-bag, in-range, keep-length, part-ways}
+use Rattle.model.proofs.Counts.{Good, chosen, deal-length, good-bag, in-range, keep-length, part-ways}
 use Rattle.model.proofs.Nearest.{map-append}
 use Rattle.model.proofs.Room.{deal-at, needed, splits, splits-more, splits-room}
 use Rattle.model.proofs.Short.{deal, goes, insertS}
 use Rattle.pool.specs.Lists.{is, occ, sumOf}
 use Rattle.pool.specs.Meanings.{Appends, Splits}
-use Rattle.pool.specs.Trees.{Node, leaf, branch, PTree, flat, flats, none, erase, groupsAt, placesAt, size, dealt, dealtFrom}
-use Rattle.pool.specs.Worlds.{Rep, RepLeaf, World, Frame, Ready}
+use Rattle.pool.specs.Trees.{leaf, branch, PTree, flat, flats, none, erase, groupsAt, placesAt, size, dealt, dealtFrom}
+use Rattle.pool.specs.Worlds.{RepLeaf, World, Frame, Ready}
 use Rattle.pool.specs.Writes.{Pool, both, kid, counted, turnAt}
 use Rattle.pool.proofs.Down.{back, down-counted}
 use Rattle.pool.proofs.Erase.{erase-flat}
@@ -70,7 +70,8 @@ module _ (ways cap : ℕ) (pt : ℕ → Point) where
   bag-grown (suc d) b p l (inl e) = absurd (omega arith)
   bag-grown (suc d) b p l (inr h) = (
     ap model.leaf (map-append pt l (p ∷ [])) ∙ sym (insert-room ways cap d b (pt p) (map pt l) (omega (arith, h, length-map l pt))),
-    splits-room cap (suc d) b (pt p) (map pt l) (omega (arith, h, length-map l pt)))
+    splits-room cap (suc d) b (pt p) (map pt l) (omega (arith, h, length-map l pt)),
+  )
 
   append-grown : (d : ℕ) (b : List Side) (s r : Pool) (i p : ℕ) (l fl fp : List ℕ) → ((d ≡ 0) ⊎ (length l < cap)) → Appends s r i p → World d ways s i (flat d l) fl fp → Ready d s (flat d l) fp p → 0 < ways
       → Grown d b s r i p (flat d l) fl fp
@@ -79,11 +80,16 @@ module _ (ways cap : ℕ) (pt : ℕ → Point) where
       let q = ap d ways l fl fp lw w rd in
       let e = bag-grown d b p l h in
       record {
-        tree = flat d (l ++ (p ∷ [])); free = fl; world = q .0; frame = q .1; erased = e .0;
+        tree = flat d (l ++ (p ∷ []));
+        free = fl;
+        world = q .0;
+        frame = q .1;
+        erased = e .0;
         groups = λ g. omega (arith, groups-flat d g l, groups-flat d g (l ++ (p ∷ [])));
         places = λ v. omega (arith, places-flat d v l, places-flat d v (l ++ (p ∷ [])), occ-append v l (p ∷ []));
         sizes = omega (arith, size-flat d l, size-flat d (l ++ (p ∷ [])), length-append l (p ∷ []));
-        left = omega (arith, e .1) }
+        left = omega (arith, e .1);
+      }
 
   -- ---- into a divided node
   pub child-erase : (d : ℕ) (ts : List (PTree d)) (c : ℕ) → getD (map (erase pt d) ts) c (bag d []) ≡ erase pt d (getD ts c (none d))
@@ -119,8 +125,11 @@ module _ (ways cap : ℕ) (pt : ℕ → Point) where
 
     ready : (n : List ℕ) → Ready d (both n (s .links)) (getD ts c (none d)) fp p
     ready n = record {
-      out = omega (arith, rd .out, sum-at (placesAt d p) ts c (none d) lt); nonzero = rd .nonzero; inside = rd .inside;
-      few = omega (arith, rd .few, sum-at (size d) ts c (none d) lt) }
+      out = omega (arith, rd .out, sum-at (placesAt d p) ts c (none d) lt);
+      nonzero = rd .nonzero;
+      inside = rd .inside;
+      few = omega (arith, rd .few, sum-at (size d) ts c (none d) lt);
+    }
 
     once : (q : ℕ) → sumOf (placesAt d q) ts + occ q fp + occ q (p ∷ []) ≤ 1
     once q = by-eq q p (λ e. omega (arith, is-eq q p e, ap (λ (u : ℕ). sumOf (placesAt d u) ts + occ u fp) e ∙ rd .out)) (λ e. omega (arith, is-other q p e, w .places q))
@@ -134,19 +143,20 @@ module _ (ways cap : ℕ) (pt : ℕ → Point) where
         done : Grown d (part b c) (both n (s .links)) r (kid ways g c) p (getD ts c (none d)) fl fp → Grown (suc d) b s r i p (branch g ts) fl fp
         done gr =
             let q = back d ways s i g ts fl fp w n r c v (gr .tree) (gr .free) fp (p ∷ []) lc en
-              (omega (arith, w .rep .3, rd .few, gr .sizes, sum-set (size d) ts c (gr .tree) (none d) lt)) (gr .groups) (λ u. omega (arith, gr .places u)) once (gr .world) (gr .frame) in
+            (omega (arith, w .rep .3, rd .few, gr .sizes, sum-set (size d) ts c (gr .tree) (none d) lt)) (gr .groups) (λ u. omega (arith, gr .places u)) once (gr .world) (gr .frame) in
             record {
-              tree = branch g (set ts c (gr .tree)); free = gr .free; world = q .0; frame = q .1;
+              tree = branch g (set ts c (gr .tree));
+              free = gr .free;
+              world = q .0;
+              frame = q .1;
               erased = branch-erase d b p g ts (set ts c (gr .tree)) (into-erase d b p ts (gr .tree) (gr .erased));
               groups = λ h. omega (arith, gr .groups h, sum-set (groupsAt d h) ts c (gr .tree) (none d) lt);
               places = λ u. omega (arith, gr .places u, sum-set (placesAt d u) ts c (gr .tree) (none d) lt);
               sizes = omega (arith, gr .sizes, sum-set (size d) ts c (gr .tree) (none d) lt);
-              left = omega (arith, gr .left, need-branch d b p g ts) }
+              left = omega (arith, gr .left, need-branch d b p g ts);
+            }
 
   -- ---- the routes of a list's points, as a split gets them
-  abbrev pub routes : List Side → List ℕ → List ℕ
-  routes b l = map (λ q. route b (pt q .at)) l
-
   -- every point of a list goes to the list that its route says
   dealt-keep : (b : List Side) (ts : List ℕ) (j : ℕ) (l : List ℕ) (ls : List (List ℕ)) (c : ℕ) → ((k : ℕ) → k < length l → turnAt ways ts (j + k) ≡ route b (pt (getD l k 0) .at)) → ((q : ℕ) → route b (pt q .at) < length ls)
       → getD (dealtFrom ways ts j l ls) c [] ≡ getD ls c [] ++ keep (λ q. eqb (route b (pt q .at)) c) l
@@ -156,15 +166,17 @@ module _ (ways cap : ℕ) (pt : ℕ → Point) where
       ap (λ (t : ℕ). getD (dealtFrom ways ts (suc j) l (set ls t (getD ls t [] ++ (q ∷ [])))) c []) turn
       ∙ dealt-keep b ts (suc j) l (set ls e (getD ls e [] ++ (q ∷ []))) c (λ k lk. ap (turnAt ways ts) {x = suc j + k} {y = j + suc k} (omega arith) ∙ h (suc k) (omega arith)) (λ u. omega (arith, lr u, length-set ls e (getD ls e [] ++ (q ∷ []))))
       ∙ by-eq e c
-        (λ k. ap (λ (u : List ℕ). u ++ keep f l) (ap (λ (i : ℕ). getD (set ls i (getD ls i [] ++ (q ∷ []))) c []) k ∙ getD-set-same ls c (getD ls c [] ++ (q ∷ [])) [] (subst (λ (i : ℕ). i < length ls) k (lr q)))
-          ∙ append-assoc (getD ls c []) (q ∷ []) (keep f l) ∙ ap (λ (t : Bool). getD ls c [] ++ elim t as (λ u. List ℕ) [ true ↦ q ∷ keep f l | false ↦ keep f l ]) (sym (eq-eqb e c k)))
-        (λ k. ap (λ (u : List ℕ). u ++ keep f l) (getD-set-other ls e c (getD ls e [] ++ (q ∷ [])) [] (λ z. k (sym z)))
-          ∙ ap (λ (t : Bool). getD ls c [] ++ elim t as (λ u. List ℕ) [ true ↦ q ∷ keep f l | false ↦ keep f l ]) (sym (ne-eqb e c k)))
+      (λ k. ap (λ (u : List ℕ). u ++ keep f l) (ap (λ (i : ℕ). getD (set ls i (getD ls i [] ++ (q ∷ []))) c []) k ∙ getD-set-same ls c (getD ls c [] ++ (q ∷ [])) [] (subst (λ (i : ℕ). i < length ls) k (lr q)))
+      ∙ append-assoc (getD ls c []) (q ∷ []) (keep f l) ∙ ap (λ (t : Bool). getD ls c [] ++ elim t as (λ u. List ℕ) [ true ↦ q ∷ keep f l | false ↦ keep f l ]) (sym (eq-eqb e c k)))
+      (λ k. ap (λ (u : List ℕ). u ++ keep f l) (getD-set-other ls e c (getD ls e [] ++ (q ∷ [])) [] (λ z. k (sym z)))
+      ∙ ap (λ (t : Bool). getD ls c [] ++ elim t as (λ u. List ℕ) [ true ↦ q ∷ keep f l | false ↦ keep f l ]) (sym (ne-eqb e c k)))
     where
       e : ℕ
       e = route b (pt q .at)
+
       f : ℕ → Bool
       f u = eqb (route b (pt u .at)) c
+
       turn : turnAt ways ts j ≡ route b (pt q .at)
       turn = ap (turnAt ways ts) {x = j} {y = j + 0} (omega arith) ∙ h 0 (omega arith)
 
@@ -179,11 +191,12 @@ module _ (ways cap : ℕ) (pt : ℕ → Point) where
     where
       long : length (map (erase pt d) (flats d (dealt ways ts l))) ≡ ways
       long = length-map (flats d (dealt ways ts l)) (erase pt d) ∙ length-map (dealt ways ts l) (flat d) ∙ dealt-long ways ts l
+
       at : (c : ℕ) → c < ways → getD (map (erase pt d) (flats d (dealt ways ts l))) c (bag d []) ≡ getD (deal d b (map pt l) 0 ways) c (bag d [])
       at c lc =
           child-erase d (flats d (dealt ways ts l)) c ∙ ap (erase pt d) (flats-at d (dealt ways ts l) c) ∙ erase-flat pt d (getD (dealt ways ts l) c [])
           ∙ ap (λ (u : List ℕ). bag d (map pt u)) (dealt-keep b ts 0 l (replicate ways []) c (λ k lk. ap (turnAt ways ts) {x = 0 + k} {y = k} (omega arith) ∙ tr k lk) (λ q. omega (arith, in-range ways cap b (pt q) ways eb refl, length-replicate {A = List ℕ} ways []))
-            ∙ ap (λ (u : List ℕ). u ++ keep (λ q. eqb (route b (pt q .at)) c) l) (getD-replicate {A = List ℕ} ways c [] [] lc))
+          ∙ ap (λ (u : List ℕ). u ++ keep (λ q. eqb (route b (pt q .at)) c) l) (getD-replicate {A = List ℕ} ways c [] [] lc))
           ∙ ap (bag d) (keep-at pt (λ u. true) (goes b c) l)
           ∙ sym (deal-at d b (map pt l) 0 ways c lc ∙ ap (λ (m : ℕ). bag d (keep (goes b m) (map pt l))) {x = 0 + c} {y = c} (omega arith))
 
@@ -208,8 +221,11 @@ module _ (ways cap : ℕ) (pt : ℕ → Point) where
 
     ready-split : Ready (suc d) s1 (branch g ks) fp p
     ready-split = record {
-      out = omega (arith, rd .out, kids-places p); nonzero = rd .nonzero; inside = omega (arith, rd .inside, f1 .len-x);
-      few = omega (arith, rd .few, kids-size) }
+      out = omega (arith, rd .out, kids-places p);
+      nonzero = rd .nonzero;
+      inside = omega (arith, rd .inside, f1 .len-x);
+      few = omega (arith, rd .few, kids-size);
+    }
 
     -- the child that gets the point
     kid-erase : erase pt d (getD ks e (none d)) ≡ bag d (keep (goes b e) (map pt l))
@@ -227,16 +243,21 @@ module _ (ways cap : ℕ) (pt : ℕ → Point) where
     pub split-grown : (r : Pool) → length l ≤ cap → cap ≤ length l → Grown (suc d) b s1 r i p (branch g ks) fl fp → Grown (suc d) b s r i p (leaf l) (g ∷ fl) fp
     unfolding erase
     split-grown r h k gr = record {
-      tree = gr .tree; free = gr .free; world = gr .world;
+      tree = gr .tree;
+      free = gr .free;
+      world = gr .world;
       frame = record {
-        len-n = gr .frame .len-n ∙ f1 .len-n; len-x = gr .frame .len-x ∙ f1 .len-x;
+        len-n = gr .frame .len-n ∙ f1 .len-n;
+        len-x = gr .frame .len-x ∙ f1 .len-x;
         nodes = λ q o. same-then (gr .frame .nodes q (o .0, o .1, λ u c lc z. omega (arith, o .2 u c lc z, flats-groups d u (dealt ways ts l)))) (f1 .nodes q o);
-        links = λ q z. gr .frame .links q (omega (arith, z, kids-places q)) ∙ f1 .links q (omega (arith, z)) };
+        links = λ q z. gr .frame .links q (omega (arith, z, kids-places q)) ∙ f1 .links q (omega (arith, z));
+      };
       erased = gr .erased ∙ split-insert k;
       groups = λ u. omega (arith, gr .groups u, flats-groups d u (dealt ways ts l));
       places = λ q. omega (arith, gr .places q, kids-places q);
       sizes = omega (arith, gr .sizes, kids-size);
-      left = omega (arith, gr .left, need-split h k, need-branch d b p g ks) }
+      left = omega (arith, gr .left, need-split h k, need-branch d b p g ks);
+    }
 
   inserts-same : (d d' : ℕ) (b b' : List Side) (s r : Pool) (j j' p : ℕ) → d ≡ d' → b ≡ b' → j ≡ j' → Inserts d b s r j p → Inserts d' b' s r j' p
   inserts-same d d' b b' s r j j' p ed eb ej q = subst (λ (u : ℕ). Inserts d' b' s r u p) ej (subst (λ (u : List Side). Inserts d' u s r j p) eb (subst (λ (u : ℕ). Inserts u b s r j p) ed q))

@@ -1,25 +1,21 @@
 -- k nearest over places: what the search leaves in the table, that it is what the model leaves, and one more place or one more child at a time. Assumes nothing.
 use mathlib.Core.Path.{_≡_, refl, ap, ap₂, sym, _∙_, subst}
-use mathlib.Core.Logic.{_≢_}
 use mathlib.Core.Bool.{Bool, true, false, not, _&&_}
-use mathlib.Core.List.{List, [], _∷_, _++_, map}
-use Prim.Native.Nat.{ℕ, zero, suc, _+_, _*_, _-_, _<_, _≤_, min}
-use native.Mathlib.Numerals.{add-one, sub-one}
+use mathlib.Core.List.{List, [], _∷_, map}
+use Prim.Native.Nat.{ℕ, zero, suc, _-_}
 use native.Mathlib.Omega.{arith}
 use lib.Dec.{T, ltb}
-use lib.ListN.{length, getD, drop, length-map, List·getD-map, List·getD-eq-default}
+use lib.ListN.{length, getD, length-map, List·getD-map, List·getD-eq-default}
 use lib.Ieee.{Float, lt}
 use Rattle.model.specs.Boxes.{Side, nodeDistance, part, squared}
-use Rattle.model.specs.Searches.{At, Child, Entry, children, entry, offer, offerEach, place, placeEach, worst}
+use Rattle.model.specs.Searches.{At, Child, Entry, children, entry, offerEach, place, placeEach, worst}
 use Rattle.model.specs.Trees.{Point, Tree}
 use Rattle.model.proofs.Nearest.{over, seek, skips}
-use Rattle.knn.specs.Candidates.{at, InOrder, numbered}
+use Rattle.knn.specs.Candidates.{at, numbered}
 use Rattle.knn.proofs.Children.{child, children-order, far, offerEach-renamed, renamed, worst-renamed}
-use Rattle.pool.specs.Read.{chain}
-use Rattle.pool.specs.Trees.{leaf, branch, PTree, none, erase, placesAt}
-use Rattle.pool.specs.Worlds.{Rep}
-use Rattle.pool.specs.Writes.{kid}
+use Rattle.pool.specs.Trees.{leaf, branch, PTree, none, erase}
 use Rattle.pool.proofs.Lists.{by-lt}
+use Rattle.pool.proofs.Trees.{Full, flat-full}
 
 -- a place at its point's distance from the centre
 abbrev pub candidate : (ℕ → Point) → List Float → ℕ → At ℕ
@@ -43,22 +39,6 @@ seekP k pt c ways (suc d) b (leaf l) t = offerEach k t (map (candidate pt c) l)
 seekP k pt c ways (suc d) b (branch g ts) t = overP k (λ i u. seekP k pt c ways d (part b i) (getD ts i (none d)) u) (placeEach [] (numbered 0 (nears b c 0 ways))) t
 
 -- ---- it is the model's search
--- every divided node has all its children
-abbrev pub Full : (ways d : ℕ) → PTree d → Type 0
-Full ways zero l = Unit {0}
-Full ways (suc d) (leaf l) = Unit {0}
-Full ways (suc d) (branch g ts) = (length ts ≡ ways) × ((i : ℕ) → Full ways d (getD ts i (none d)))
-
-none-full : (ways d : ℕ) → Full ways d (none d)
-none-full ways zero = tt
-none-full ways (suc d) = tt
-
-pub rep-full : (ways d : ℕ) (n x : List ℕ) (i : ℕ) (t : PTree d) → Rep d ways n x i t → Full ways d t
-rep-full ways zero n x i l r = tt
-rep-full ways (suc d) n x i (leaf l) r = tt
-rep-full ways (suc d) n x i (branch g ts) r = (r .4, λ c. by-lt c ways (λ lc. rep-full ways d n x (kid ways g c) (getD ts c (none d)) (r .5 c lc))
-    (λ h. subst (Full ways d) (sym (List·getD-eq-default ts (none d) {n = c} (omega (arith, h, r .4)))) (none-full ways d)))
-
 far-nears : (d : ℕ) (b : List Side) (c : List Float) (z : Tree d) (i : ℕ) (ts : List (Tree d)) → far d b c z i ts ≡ nears b c i (length ts)
 unfolding children nears
 far-nears d b c z i [] = refl
@@ -88,17 +68,21 @@ module _ (pt : ℕ → Point) (k : ℕ) (c : List Float) where
       same [] = refl
       same (p ∷ l) = ap {B = List Entry} (λ u. record { dist = squared (pt p .at) c; item = pt p } ∷ u) (same l)
 
-  pub seek-erase : (ways d : ℕ) (b : List Side) (t : PTree d) (T : List (At ℕ)) → Full ways d t → map (renamed pt) (seekP k pt c ways d b t T) ≡ seek k c d b (erase pt d t) (map (renamed pt) T)
+  pub seek-erase : (ways d : ℕ) (b : List Side) (t : PTree d) (T : List (At ℕ)) → Full d ways t → map (renamed pt) (seekP k pt c ways d b t T) ≡ seek k c d b (erase pt d t) (map (renamed pt) T)
   unfolding seekP seek erase
   seek-erase ways zero b l T f = list-erase l T
   seek-erase ways (suc d) b (leaf l) T f = list-erase l T
   seek-erase ways (suc d) b (branch g ts) T f =
       over-erase d b (child d b c z us) _ (placeEach [] (numbered 0 (nears b c 0 ways))) T
-        (λ i u. seek-erase ways d (part b i) (getD ts i (none d)) u (f .1 i) ∙ ap (λ (v : Tree d). seek k c d (part b i) v (map (renamed pt) u)) (sym (List·getD-map (erase pt d) ts i (none d))))
+      (λ i u. seek-erase ways d (part b i) (getD ts i (none d)) u (full i) ∙ ap (λ (v : Tree d). seek k c d (part b i) v (map (renamed pt) u)) (sym (List·getD-map (erase pt d) ts i (none d))))
       ∙ ap (λ (es : List (At (Child (Tree d)))). over k (λ n u. seek k c d n u) es (map (renamed pt) T))
-        (ap (λ (ns : List Float). map (renamed (child d b c z us)) (placeEach [] (numbered 0 ns))) (ap (nears b c 0) (sym (length-map ts (erase pt d) ∙ f .0)) ∙ sym (far-nears d b c z 0 us)) ∙ children-order d b c z us)
+      (ap (λ (ns : List Float). map (renamed (child d b c z us)) (placeEach [] (numbered 0 ns))) (ap (nears b c 0) (sym (length-map ts (erase pt d) ∙ f .0)) ∙ sym (far-nears d b c z 0 us)) ∙ children-order d b c z us)
     where
+      full : (i : ℕ) → Full d ways (getD ts i (none d))
+      full i = by-lt i ways (f .1 i) (λ h. subst (Full d ways) (sym (List·getD-eq-default ts (none d) {n = i} (omega (arith, h, f .0)))) (flat-full d ways []))
+
       us : List (Tree d)
       us = map (erase pt d) ts
+
       z : Tree d
       z = erase pt d (none d)

@@ -7,26 +7,25 @@ use Prim.Native.Nat.{ℕ, zero, suc, _+_, _*_, _-_, _%_, _<_, _≤_, min}
 use native.Mathlib.Nat.{mod-eq-of-lt}
 use native.Mathlib.Numerals.{add-one, sub-one}
 use native.Mathlib.Omega.{arith}
-use lib.Dec.{T, ltb}
+use lib.Dec.{ltb}
 use lib.ListN.{length, getD, take, drop, drop-of-length-le, length-map}
 use lib.Seq.{drop-cons, sets, take-all}
-use lib.Ieee.{Float, lt, inf, fin, nan}
-use borrow.Author.Tests.{lt-ltb, le-ltb}
-use Rattle.model.specs.Boxes.{Side, nodeDistance, part, squared}
+use lib.Ieee.{Float, lt, nan}
+use Rattle.model.specs.Boxes.{Side, nodeDistance, part}
 use Rattle.model.specs.Searches.{At, offer, offerEach, place, placeEach, worst}
 use Rattle.model.specs.Soundness.{All}
 use Rattle.model.specs.Trees.{Point}
 use Rattle.model.proofs.Nearest.{placeEach-all}
-use Rattle.knn.specs.Candidates.{at, bar, dists, entries, items, lastOr, room, InOrder, ByModel, Written, numbered, ordered}
+use Rattle.knn.specs.Candidates.{at, bar, dists, entries, items, room, InOrder, ByModel, Written, numbered, ordered}
 use Rattle.knn.proofs.Arrays.{sets-front}
 use Rattle.knn.proofs.Bar.{skip-is}
 use Rattle.knn.proofs.Order.{place-length}
-use Rattle.pool.specs.Lists.{occ, sumOf, Chain}
 use Rattle.pool.specs.Read.{chain}
 use Rattle.pool.specs.Trees.{leaf, branch, PTree, none, placesAt}
-use Rattle.pool.specs.Worlds.{RepLeaf, Rep}
+use Rattle.pool.specs.Worlds.{Rep}
 use Rattle.pool.specs.Writes.{kid}
-use Rattle.trees.proofs.Collects.{Kids, kid-once, kids-of, chain-step, chain-stop, list-chain}
+use Rattle.pool.proofs.Read.{list-is}
+use Rattle.trees.proofs.Collects.{Kids, kid-once, kids-of, chain-step, chain-stop}
 use Rattle.trees.proofs.Seeks.{candidate, nears, overP, seekP}
 
 -- ---- a table in its own order becomes another
@@ -85,9 +84,11 @@ module _ (k : ℕ) (g : ℕ → At ℕ) (x : List ℕ) (fuel h : ℕ) (ds : List
   pub offering-step : (nd : List Float) (np : List ℕ) (left q m : ℕ) (d : Float) (nd' : List Float) (np' : List ℕ) (q' m' : ℕ) → Offering k g x fuel h ds ps n nd np left q m → 0 < left → q ≢ 0 → at d q ≡ g q
       → length nd' ≡ length nd → length np' ≡ length np → ByModel m k d q nd np nd' np' m' → q' ≡ getD x q 0 → Offering k g x fuel h ds ps n nd' np' (left - 1) q' m'
   offering-step nd np left q m d nd' np' q' m' w hl hq eg a b v eq = record {
-      same-d = a ∙ w .same-d; same-p = b ∙ w .same-p;
-      turning = turning-step _ ds ps n (offer (room k ds ps) (at d q)) _ _ nd np m nd' np' m' (w .turning) (λ o. offering-more (room k ds ps) g left x q q' (at d q) (entries m nd np) hl hq eg eq)
-        (subst (λ (j : ℕ). InOrder (entries m nd np) → (entries m' nd' np' ≡ offer j (at d q) (entries m nd np)) × InOrder (entries m' nd' np')) (same-room k ds nd ps np (w .same-d) (w .same-p)) v) }
+    same-d = a ∙ w .same-d;
+    same-p = b ∙ w .same-p;
+    turning = turning-step _ ds ps n (offer (room k ds ps) (at d q)) _ _ nd np m nd' np' m' (w .turning) (λ o. offering-more (room k ds ps) g left x q q' (at d q) (entries m nd np) hl hq eg eq)
+        (subst (λ (j : ℕ). InOrder (entries m nd np) → (entries m' nd' np' ≡ offer j (at d q) (entries m nd np)) × InOrder (entries m' nd' np')) (same-room k ds nd ps np (w .same-d) (w .same-p)) v);
+  }
 
   pub offering-stop : (nd : List Float) (np : List ℕ) (left q m all : ℕ) → Offering k g x fuel h ds ps n nd np left q m → q ≡ 0 → all ≡ fuel → Tables (offering (room k ds ps) g all x h) ds ps n nd np m
   offering-stop nd np left q m all w e ea = subst (λ (j : ℕ). Tables (offering (room k ds ps) g j x h) ds ps n nd np m) (sym ea) (turning-end _ ds ps n _ nd np m (w .turning) (offering-none (room k ds ps) g left x q (entries m nd np) e))
@@ -103,8 +104,8 @@ module _ (pt : ℕ → Point) (c : List Float) (k ways : ℕ) (n x : List ℕ) w
   pub seeks-list : (d : ℕ) (b : List Side) (i g h : ℕ) (ds : List Float) (ps : List ℕ) (m : ℕ) (ds' : List Float) (ps' : List ℕ) (r : ℕ) → g ≡ getD n (4 * i) 0 → g ≡ 0 → h ≡ getD n (4 * i + 1) 0
       → Tables (offering (room k ds ps) (candidate pt c) (length x) x h) ds ps m ds' ps' r → Seeks d b i ds ps m ds' ps' r
   unfolding Seeks seekP offering
-  seeks-list zero b i g h ds ps m ds' ps' r eg z eh w l q u ed one = subst (λ (s : List ℕ). Tables (λ t. offerEach (room k ds ps) t (map (candidate pt c) s)) ds ps m ds' ps' r) (ap (chain (length x) x) eh ∙ list-chain n x i l q u) w
-  seeks-list (suc d) b i g h ds ps m ds' ps' r eg z eh w (leaf l) q u ed one = subst (λ (s : List ℕ). Tables (λ t. offerEach (room k ds ps) t (map (candidate pt c) s)) ds ps m ds' ps' r) (ap (chain (length x) x) eh ∙ list-chain n x i l q u) w
+  seeks-list zero b i g h ds ps m ds' ps' r eg z eh w l q u ed one = subst (λ (s : List ℕ). Tables (λ t. offerEach (room k ds ps) t (map (candidate pt c) s)) ds ps m ds' ps' r) (ap (chain (length x) x) eh ∙ list-is n x i l q u) w
+  seeks-list (suc d) b i g h ds ps m ds' ps' r eg z eh w (leaf l) q u ed one = subst (λ (s : List ℕ). Tables (λ t. offerEach (room k ds ps) t (map (candidate pt c) s)) ds ps m ds' ps' r) (ap (chain (length x) x) eh ∙ list-is n x i l q u) w
   seeks-list (suc d) b i g h ds ps m ds' ps' r eg z eh w (branch f ts) q u ed one = absurd (q .2 (sym (q .1) ∙ sym eg ∙ z))
 
   pub seeks-none : (d : ℕ) (b : List Side) (i g : ℕ) (ds : List Float) (ps : List ℕ) (m : ℕ) → g ≡ getD n (4 * i) 0 → g ≢ 0 → d ≡ 0 → Seeks d b i ds ps m ds ps m
@@ -124,7 +125,7 @@ module _ (pt : ℕ → Point) (c : List Float) (k ways : ℕ) (n x : List ℕ) w
     pub same-d : length nd ≡ length ds
     pub same-p : length np ≡ length ps
     pub turning : (ts : List (PTree d)) → Kids ways n x d g ts → length ds ≡ length ps → 1 ≤ room k ds ps
-      → Turning (overP (room k ds ps) (below (room k ds ps) d b ts) (order b)) ds ps m (overP (room k ds ps) (below (room k ds ps) d b ts) (drop j (order b))) nd np m'
+        → Turning (overP (room k ds ps) (below (room k ds ps) d b ts) (order b)) ds ps m (overP (room k ds ps) (below (room k ds ps) d b ts) (drop j (order b))) nd np m'
 
   pub nexts-start : (d : ℕ) (b : List Side) (g : ℕ) (ds : List Float) (ps : List ℕ) (m : ℕ) → Nexts d b g ds ps m 0 ds ps m
   nexts-start d b g ds ps m = record { same-d = refl; same-p = refl; turning = λ ts z e one. turning-start _ ds ps m }
@@ -149,17 +150,19 @@ module _ (pt : ℕ → Point) (c : List Float) (k ways : ℕ) (n x : List ℕ) w
       → node ≡ kid ways g i → b' ≡ part b i → length nd' ≡ length nd → length np' ≡ length np → Seeks d b' node nd np m' nd' np' m'' → Nexts d b g ds ps m (j + 1) nd' np' m''
   unfolding Seeks below
   nexts-step d b b' g ds ps m j i node y w nd np m' nd' np' m'' q hj ej li ew s en eb ld lp v = record {
-      same-d = ld ∙ q .same-d; same-p = lp ∙ q .same-p;
-      turning = λ ts z e one.
+    same-d = ld ∙ q .same-d;
+    same-p = lp ∙ q .same-p;
+    turning = λ ts z e one.
         let re : room k nd np ≡ room k ds ps = same-room k ds nd ps np (q .same-d) (q .same-p) in
         subst (λ (o : ℕ). Turning (overP (room k ds ps) (below (room k ds ps) d b ts) (order b)) ds ps m (overP (room k ds ps) (below (room k ds ps) d b ts) (drop o (order b))) nd' np' m'') (sym (add-one j))
         (turning-step _ ds ps m (below (room k ds ps) d b ts i) _ _ nd np m' nd' np' m'' (q .turning ts z e one)
-          (λ o. over-go (room k ds ps) (below (room k ds ps) d b ts) (order b) j (at y i) (entries m' nd np) hj ej
-            (ap (λ (M : ℕ). not (ltb (length (entries m' nd np)) M) && worst (λ w. lt w y) (entries m' nd np)) (sym re)
-            ∙ sym (skip-is m' k nd np y (q .same-d ∙ e ∙ sym (q .same-p)) (subst (λ (M : ℕ). 1 ≤ M) (sym re) one)) ∙ ap (λ (u : Float). lt u y) (sym ew) ∙ s))
-          (subst (λ (M : ℕ). Tables (below M d b ts i) nd np m' nd' np' m'') re
-            (subst (λ (u : List Side). Tables (seekP (room k nd np) pt c ways d u (getD ts i (none d))) nd np m' nd' np' m'') eb
-            (v (getD ts i (none d)) (subst (λ (u : ℕ). Rep d ways n x u (getD ts i (none d))) (sym en) (z .each i li)) (kid-once ways n x d g ts z i li) (q .same-d ∙ e ∙ sym (q .same-p)) (subst (λ (M : ℕ). 1 ≤ M) (sym re) one))))) }
+        (λ o. over-go (room k ds ps) (below (room k ds ps) d b ts) (order b) j (at y i) (entries m' nd np) hj ej
+        (ap (λ (M : ℕ). not (ltb (length (entries m' nd np)) M) && worst (λ w. lt w y) (entries m' nd np)) (sym re)
+        ∙ sym (skip-is m' k nd np y (q .same-d ∙ e ∙ sym (q .same-p)) (subst (λ (M : ℕ). 1 ≤ M) (sym re) one)) ∙ ap (λ (u : Float). lt u y) (sym ew) ∙ s))
+        (subst (λ (M : ℕ). Tables (below M d b ts i) nd np m' nd' np' m'') re
+        (subst (λ (u : List Side). Tables (seekP (room k nd np) pt c ways d u (getD ts i (none d))) nd np m' nd' np' m'') eb
+        (v (getD ts i (none d)) (subst (λ (u : ℕ). Rep d ways n x u (getD ts i (none d))) (sym en) (z .each i li)) (kid-once ways n x d g ts z i li) (q .same-d ∙ e ∙ sym (q .same-p)) (subst (λ (M : ℕ). 1 ≤ M) (sym re) one)))));
+  }
 
   -- in the end the divided node is searched
   whole : (d : ℕ) (b : List Side) (i g : ℕ) (ds : List Float) (ps : List ℕ) (m : ℕ) (nd : List Float) (np : List ℕ) (m' : ℕ) → g ≡ getD n (4 * i) 0 → g ≢ 0 → d ≢ 0
@@ -176,17 +179,17 @@ module _ (pt : ℕ → Point) (c : List Float) (k ways : ℕ) (n x : List ℕ) w
       → Nexts (d - 1) b g ds ps m j nd np m' → j < length (order b) → getD (order b) j (at y o) ≡ at y o → w ≡ bar (min (min k 512) (length nd)) (take m' nd) → lt w y ≡ true → Seeks d b i ds ps m nd np m'
   nexts-skip d b i g ds ps m j o y w nd np m' eg z nz q hj ej ew s =
       whole d b i g ds ps m nd np m' eg z nz (λ ts kids e one.
-        let re : room k nd np ≡ room k ds ps = same-room k ds nd ps np (q .same-d) (q .same-p) in
-        turning-end _ ds ps m _ nd np m' (q .turning ts kids e one)
-        (over-skip (room k ds ps) (below (room k ds ps) (d - 1) b ts) (order b) j (at y o) (entries m' nd np) hj ej
-          (ap (λ (M : ℕ). not (ltb (length (entries m' nd np)) M) && worst (λ w. lt w y) (entries m' nd np)) (sym re)
-          ∙ sym (skip-is m' k nd np y (q .same-d ∙ e ∙ sym (q .same-p)) (subst (λ (M : ℕ). 1 ≤ M) (sym re) one)) ∙ ap (λ (u : Float). lt u y) (sym ew) ∙ s)))
+      let re : room k nd np ≡ room k ds ps = same-room k ds nd ps np (q .same-d) (q .same-p) in
+      turning-end _ ds ps m _ nd np m' (q .turning ts kids e one)
+      (over-skip (room k ds ps) (below (room k ds ps) (d - 1) b ts) (order b) j (at y o) (entries m' nd np) hj ej
+      (ap (λ (M : ℕ). not (ltb (length (entries m' nd np)) M) && worst (λ w. lt w y) (entries m' nd np)) (sym re)
+      ∙ sym (skip-is m' k nd np y (q .same-d ∙ e ∙ sym (q .same-p)) (subst (λ (M : ℕ). 1 ≤ M) (sym re) one)) ∙ ap (λ (u : Float). lt u y) (sym ew) ∙ s)))
 
   pub nexts-end : (d : ℕ) (b : List Side) (i g : ℕ) (ds : List Float) (ps : List ℕ) (m j : ℕ) (nd : List Float) (np : List ℕ) (m' : ℕ) → g ≡ getD n (4 * i) 0 → g ≢ 0 → d ≢ 0
       → Nexts (d - 1) b g ds ps m j nd np m' → length (order b) ≤ j → Seeks d b i ds ps m nd np m'
   nexts-end d b i g ds ps m j nd np m' eg z nz q h =
       whole d b i g ds ps m nd np m' eg z nz (λ ts kids e one. turning-end _ ds ps m _ nd np m' (q .turning ts kids e one)
-        (ap (λ (us : List (At ℕ)). overP (room k ds ps) (below (room k ds ps) (d - 1) b ts) us (entries m' nd np)) (drop-of-length-le (order b) {i = j} h) ∙ unfold overP in refl))
+      (ap (λ (us : List (At ℕ)). overP (room k ds ps) (below (room k ds ps) (d - 1) b ts) us (entries m' nd np)) (drop-of-length-le (order b) {i = j} h) ∙ unfold overP in refl))
 
 -- ---- the order of children in two arrays
 nears-length : (b : List Side) (c : List Float) (i m : ℕ) → length (nears b c i m) ≡ m
@@ -248,14 +251,17 @@ front-all {A} vs l e = sets-front vs l (omega (arith, e)) ∙ ap (λ (r : List A
 
 pub ordered-all : (b : List Side) (c : List Float) (ways : ℕ) (ds : List Float) (ps : List ℕ) (ds' : List Float) (ps' : List ℕ) → ways ≤ 8 → ds ≡ nears b c 0 ways → length ps ≡ ways → Written (ordered ds ps) ds ps ds' ps'
     → (ds' ≡ dists (placeEach [] (numbered 0 (nears b c 0 ways)))) × (ps' ≡ items (placeEach [] (numbered 0 (nears b c 0 ways))))
-ordered-all b c ways ds ps ds' ps' h ed ep w =
-    (w .0 ∙ ap (λ (t : List (At ℕ)). sets ds 0 (dists t)) same ∙ front-all (dists es) ds (length-map es (λ e. e .dist) ∙ order-length b c ways ∙ sym long),
-    w .1 ∙ ap (λ (t : List (At ℕ)). sets ps 0 (items t)) same ∙ front-all (items es) ps (length-map es (λ e. e .item) ∙ order-length b c ways ∙ sym ep))
+ordered-all b c ways ds ps ds' ps' h ed ep w = (
+  w .0 ∙ ap (λ (t : List (At ℕ)). sets ds 0 (dists t)) same ∙ front-all (dists es) ds (length-map es (λ e. e .dist) ∙ order-length b c ways ∙ sym long),
+  w .1 ∙ ap (λ (t : List (At ℕ)). sets ps 0 (items t)) same ∙ front-all (items es) ps (length-map es (λ e. e .item) ∙ order-length b c ways ∙ sym ep),
+)
   where
     es : List (At ℕ)
     es = placeEach [] (numbered 0 (nears b c 0 ways))
+
     long : length ds ≡ ways
     long = ap length ed ∙ nears-length b c 0 ways
+
     same : ordered ds ps ≡ placeEach [] (numbered 0 (nears b c 0 ways))
     same = ap (λ (l : List Float). placeEach [] (numbered 0 l)) (take-all (min 8 (min (length ds) (length ps))) ds (omega (arith, long, ep, h)) ∙ ed)
 
@@ -267,9 +273,12 @@ order-entry b c ways j ds ps h ed ep =
   where
     es : List (At ℕ)
     es = placeEach [] (numbered 0 (nears b c 0 ways))
+
     hj : j < length (placeEach [] (numbered 0 (nears b c 0 ways)))
     hj = omega (arith, h, order-length b c ways)
+
     low : getD ps j 0 < ways
     low = subst (λ (i : ℕ). i < ways) (ap (λ (e : At ℕ). e .item) (order-at (placeEach [] (numbered 0 (nears b c 0 ways))) ds ps j ed ep hj)) (order-below b c ways j (at (getD ds j nan) (getD ps j 0)) h)
+
     small : getD ps j 0 % ways ≡ getD ps j 0
     small = mod-eq-of-lt low

@@ -1,11 +1,11 @@
 -- The routes of a list's points, noted one after the other, and the split that uses them. Assumes nothing.
 use mathlib.Core.Path.{_≡_, refl, ap, ap₂, sym, _∙_, subst}
 use mathlib.Core.Logic.{_≢_}
-use mathlib.Core.Bool.{Bool, true, false, cond}
-use mathlib.Core.List.{List, [], _∷_, _++_, map}
+use mathlib.Core.Bool.{cond}
+use mathlib.Core.List.{List, [], _∷_, map}
 use Prim.Native.Nat.{ℕ, zero, suc, _+_, _*_, _-_, _^_, _<_, _≤_}
 use native.Mathlib.Omega.{arith}
-use lib.ListN.{length, getD, set, length-map, List·getD-map, List·getD-append}
+use lib.ListN.{length, getD, length-map, List·getD-map, List·getD-append}
 use lib.Seq.{sets}
 use lib.Dec.{ltb}
 use borrow.Author.Tests.{lt-ltb}
@@ -19,7 +19,8 @@ use Rattle.pool.specs.Read.{chain}
 use Rattle.pool.specs.Worlds.{RepLeaf}
 use Rattle.pool.specs.Writes.{Pool, turnAt}
 use Rattle.pool.proofs.Chains.{chain-short}
-use Rattle.trees.proofs.Collects.{Noting, noting-end, noting-start, noting-step, chain-step, chain-stop, list-chain}
+use Rattle.pool.proofs.Read.{list-is}
+use Rattle.trees.proofs.Collects.{Noting, noting-end, noting-start, noting-step, chain-step, chain-stop}
 use Rattle.trees.proofs.Inserts.{Turns}
 use Rattle.trees.proofs.Walks.{Notes}
 
@@ -40,9 +41,10 @@ module _ (f : ℕ → ℕ) (x : List ℕ) (fuel h : ℕ) (out : List ℕ) (n : �
       → Notes (t ∷ []) now m now' m' → q' ≡ getD x q 0 → Turning f x fuel h out n now' (left - 1) q' m'
   unfolding turned
   turning-step now left q m now' q' m' t w hl hq et e a eq = record {
-      same = e ∙ w .same;
-      noting = noting-step (turned f fuel x h) out n (t ∷ []) (turned f (left - 1) x q') now m now' m' e
-        (subst (λ (l : List ℕ). Noting (turned f fuel x h) out n l now m) (ap (map f) (chain-step left x q hl hq) ∙ ap₂ (λ (u p : ℕ). u ∷ map f (chain (left - 1) x p)) (sym et) (sym eq)) (w .noting)) a }
+    same = e ∙ w .same;
+    noting = noting-step (turned f fuel x h) out n (t ∷ []) (turned f (left - 1) x q') now m now' m' e
+        (subst (λ (l : List ℕ). Noting (turned f fuel x h) out n l now m) (ap (map f) (chain-step left x q hl hq) ∙ ap₂ (λ (u p : ℕ). u ∷ map f (chain (left - 1) x p)) (sym et) (sym eq)) (w .noting)) a;
+  }
 
   pub turning-stop : (now : List ℕ) (left q m all : ℕ) → Turning f x fuel h out n now left q m → q ≡ 0 → all ≡ fuel → Notes (turned f all x h) out n now m
   unfolding turned
@@ -54,9 +56,6 @@ module _ (f : ℕ → ℕ) (x : List ℕ) (fuel h : ℕ) (out : List ℕ) (n : �
 
 -- one turn
 module _ (out : List ℕ) (n t : ℕ) where
-  pub turn-noted : Notes (t ∷ []) out n (set out n t) (n + 1)
-  turn-noted = record { count = λ h. refl; written = λ h. refl }
-
   pub turn-full : length out ≤ n → Notes (t ∷ []) out n out n
   turn-full h = record { count = λ k. absurd (omega arith); written = λ k. absurd (omega arith) }
 
@@ -79,10 +78,11 @@ module _ (ways : ℕ) (pt : ℕ → Point) where
   pub parts : (b : List Side) (s r : Pool) (i g h : ℕ) (ts out : List ℕ) (m : ℕ) → 2 ^ length b ≡ ways → h ≡ getD (s .nodes) (4 * i + 1) 0 → Notes (turned (λ q. route b (pt q .at)) (length (s .links)) (s .links) h) out 0 ts m
       → length (s .links) ≤ length out → Splits ways ts s r i g → Parts b s r i g
   unfolding turned
-  parts b s r i g h ts out m eb eh w lo sp = record { turns = ts; splits = sp; routed = λ l q u k lk. at l k lk (chain-short l (s .links) (getD (s .nodes) (4 * i + 1) 0) (q .2) u) (ap (chain (length (s .links)) (s .links)) eh ∙ list-chain (s .nodes) (s .links) i l q u) }
+  parts b s r i g h ts out m eb eh w lo sp = record { turns = ts; splits = sp; routed = λ l q u k lk. at l k lk (chain-short l (s .links) (getD (s .nodes) (4 * i + 1) 0) (q .2) u) (ap (chain (length (s .links)) (s .links)) eh ∙ list-is (s .nodes) (s .links) i l q u) }
     where
       f : ℕ → ℕ
       f q = route b (pt q .at)
+
       at : (l : List ℕ) (k : ℕ) → k < length l → length l ≤ length (s .links) → chain (length (s .links)) (s .links) h ≡ l → turnAt ways ts k ≡ route b (pt (getD l k 0) .at)
       at l k lk short e =
           turn-is ways ts k (route b (pt (getD l k 0) .at))

@@ -1,21 +1,18 @@
 -- Searches over places: what they find, that it is what the model finds, and one more place or one more child at a time. Assumes nothing.
 use mathlib.Core.Path.{_≡_, refl, ap, ap₂, sym, _∙_, subst}
-use mathlib.Core.Bool.{Bool, true, false, not, _&&_, cond}
-use mathlib.Core.List.{List, [], _∷_, _++_, map, flatten, append-nil, append-assoc}
-use Prim.Native.Nat.{ℕ, zero, suc, _+_, _*_, _-_, _<_, _≤_}
+use mathlib.Core.Bool.{Bool, true, false, not, cond}
+use mathlib.Core.List.{List, [], _∷_, _++_, map, flatten}
+use Prim.Native.Nat.{ℕ, zero, suc, _+_, _-_, _≤_}
 use native.Mathlib.Omega.{arith}
-use lib.Dec.{T, ltb}
-use lib.ListN.{length, getD, set, take, length-append, length-set}
-use lib.Seq.{sets, take-suc, length-sets}
+use lib.ListN.{length, set, length-append}
+use lib.Seq.{sets}
 use Rattle.model.specs.Boxes.{Side, part}
 use Rattle.model.specs.Searches.{keep}
 use Rattle.model.specs.Trees.{Point}
 use Rattle.model.proofs.Lists.{mapi}
 use Rattle.model.proofs.Nearest.{map-append}
 use Rattle.model.proofs.Skip.{walk}
-use Rattle.pool.specs.Read.{chain}
-use Rattle.pool.specs.Trees.{leaf, branch, PTree, erase, placesAt}
-use Rattle.pool.specs.Worlds.{Rep}
+use Rattle.pool.specs.Trees.{leaf, branch, PTree, erase}
 
 -- the places that pass a test, in visiting order, in the nodes whose boxes pass another
 unfoldable pub places : (List Side → Bool) → (ℕ → Bool) → (d : ℕ) → List Side → PTree d → List ℕ
@@ -64,9 +61,10 @@ notes-none out n = record { count = λ h. omega arith; written = λ h. refl }
 
 pub notes-then : (l m out out1 out2 : List ℕ) (n k r : ℕ) → length out1 ≡ length out → Notes l out n out1 k → Notes m out1 k out2 r → Notes (l ++ m) out n out2 r
 notes-then l m out out1 out2 n k r e a b = record {
-    count = λ h. let q : k ≡ n + length l = a .count (omega (arith, h, length-append l m)) in b .count (omega (arith, h, length-append l m, q, e)) ∙ omega (arith, q, length-append l m);
-    written = λ h. let q : k ≡ n + length l = a .count (omega (arith, h, length-append l m)) in
-      b .written (omega (arith, h, length-append l m, q, e)) ∙ ap₂ (λ (o : List ℕ) (j : ℕ). sets o j m) (a .written (omega (arith, h, length-append l m))) q ∙ sym (sets-append l m out n) }
+  count = λ h. let q : k ≡ n + length l = a .count (omega (arith, h, length-append l m)) in b .count (omega (arith, h, length-append l m, q, e)) ∙ omega (arith, q, length-append l m);
+  written = λ h. let q : k ≡ n + length l = a .count (omega (arith, h, length-append l m)) in
+      b .written (omega (arith, h, length-append l m, q, e)) ∙ ap₂ (λ (o : List ℕ) (j : ℕ). sets o j m) (a .written (omega (arith, h, length-append l m))) q ∙ sym (sets-append l m out n);
+}
   where
     sets-append : (l m out : List ℕ) (n : ℕ) → sets out n (l ++ m) ≡ sets (sets out n l) (n + length l) m
     sets-append [] m out n = ap (λ (j : ℕ). sets out j m) {x = n} {y = n + 0} (omega arith)

@@ -9,11 +9,6 @@ use Rattle.trees.proofs.Descents.{small-route, together, together-end, together
 use borrow.Author.Needs.{needs}
 use Rattle.quadtree.proofs.descent.all_go.Statement.{statement}
 use Rattle.quadtree.proofs.descent.all_go.Tie as tie
-use Rattle.quadtree.proofs.descent.all_go.Reads as reads
-use Rattle.quadtree.proofs.descent.all_go.Lts as lts
-use Rattle.geometry.proofs.plane.Rectangle.child_index.Reads as child-index-reads
-use Rattle.pool.proofs.next.Reads as next-reads
-use Rattle.quadtree.proofs.place.point_at.Reads as point-at-reads
 
 abbrev Inv-loop : tie.InvT-loop
 Inv-loop links points head bounds c left₀ p₀ left p = together (λ p. route (sides2 bounds) (pointAt 2 (words points) p .at)) c left (words links) p ≡ together (λ p. route (sides2 bounds) (pointAt 2 (words points) p .at)) c left₀ (words links) p₀
@@ -21,47 +16,36 @@ Inv-loop links points head bounds c left₀ p₀ left p = together (λ p. route 
 abbrev μ-loop : tie.MeasureT-loop
 μ-loop links points head bounds c left₀ p₀ left p = left
 
--- src/descent.rt:90:5
 loop-holds : tie.Need-loop-holds Inv-loop μ-loop
 loop-holds c = refl
 
--- src/descent.rt:92:13
 returns : tie.Need-returns Inv-loop μ-loop
 returns c = together-whole _ _ _ _ _ _ _ (length-words (c .before .before .before .before .before .args .links .now)) (sym (together-stop _ _ _ _ _ (c .if1 .taken)) ∙ c .before .before .loop .inv)
 
--- src/descent.rt:94:13
 point-at-requires : tie.Need-point-at-requires Inv-loop μ-loop
 point-at-requires c κs = search needs
 
--- src/descent.rt:95:18
 child-index-requires : tie.Need-child-index-requires Inv-loop μ-loop
 child-index-requires c κs = search needs
 
--- src/descent.rt:95:17
 cast-t : tie.Need-cast-t Inv-loop μ-loop
 cast-t c = search needs
 
--- src/descent.rt:97:13
 returns-2 : tie.Need-returns-2 Inv-loop μ-loop
 returns-2 c = together-whole _ _ _ _ _ _ _ (length-words (c .before .before .before .before .before .before .before .before .args .links .now)) (sym (together-no _ _ _ _ _ _ (c .before .before .before .before .loop-test .taken) (c .before .before .before .if1 .left) (small-route _ _ 4 _ refl (c .before .child-index .ensures) ∙ ap (route (sides2 (c .before .before .before .before .before .before .before .before .args .bounds))) (c .before .before .point-at .ensures)) (c .if2 .taken)) ∙ c .before .before .before .before .before .loop .inv)
 
--- src/descent.rt:99:9
 next-requires : tie.Need-next-requires Inv-loop μ-loop
 next-requires c κs = search needs
 
--- src/descent.rt:100:9
 sub-left : tie.Need-sub-left Inv-loop μ-loop
 sub-left c = search needs
 
--- src/descent.rt:90:5
 loop-less : tie.Need-loop-less Inv-loop μ-loop
 loop-less c = search needs
 
--- src/descent.rt:90:5
 loop-again : tie.Need-loop-again Inv-loop μ-loop
 loop-again c = sym (together-next _ _ _ _ _ _ _ (c .before .before .before .before .before .loop-test .taken) (c .before .before .before .before .if1 .left) (small-route _ _ 4 _ refl (c .before .before .child-index .ensures) ∙ ap (route (sides2 (c .before .before .before .before .before .before .before .before .before .args .bounds))) (c .before .before .before .point-at .ensures)) (c .before .if2 .left) (c .next .ensures)) ∙ c .before .before .before .before .before .before .loop .inv
 
--- src/descent.rt:85:1
 returns-3 : tie.Need-returns-3 Inv-loop μ-loop
 returns-3 c = together-whole _ _ _ _ _ _ _ (length-words (c .before .before .before .before .args .links .now)) (sym (together-end _ _ _ _ _ (omega (arith, c .loop-test .left))) ∙ c .before .loop .inv)
 

@@ -1,5 +1,4 @@
-use mathlib.Core.Path.{_≡_, refl, sym, ap, _∙_}
-use Prim.Native.Nat.{ℕ}
+use mathlib.Core.Path.{_≡_, refl, sym, _∙_}
 use native.Mathlib.Omega.{arith}
 use Rattle.words.specs.Words.{words}
 use Rattle.words.proofs.Words.{length-words}
@@ -11,10 +10,6 @@ use Rattle.trees.proofs.Finds.{seek, seek-end, seek-hit, seek-next, seek-stop, 
 use borrow.Author.Needs.{needs}
 use Rattle.quadtree.proofs.descent.find_in.Statement.{statement}
 use Rattle.quadtree.proofs.descent.find_in.Tie as tie
-use Rattle.quadtree.proofs.descent.find_in.Reads as reads
-use Rattle.quadtree.proofs.descent.find_in.Lts as lts
-use Rattle.pool.proofs.next.Reads as next-reads
-use Rattle.quadtree.proofs.descent.same_at.Reads as same-at-reads
 
 abbrev Inv-loop : tie.InvT-loop
 Inv-loop links points head point mark left₀ p₀ b₀ left p b = seek (λ p. same (record { at = place2 point; payload = mark }) (pointAt 2 (words points) p)) (chain left (words links) p) b ≡ seek (λ p. same (record { at = place2 point; payload = mark }) (pointAt 2 (words points) p)) (chain left₀ (words links) p₀) b₀
@@ -22,39 +17,30 @@ Inv-loop links points head point mark left₀ p₀ b₀ left p b = seek (λ p. s
 abbrev μ-loop : tie.MeasureT-loop
 μ-loop links points head point mark left₀ p₀ b₀ left p b = left
 
--- src/descent.rt:67:5
 loop-holds : tie.Need-loop-holds Inv-loop μ-loop
 loop-holds c = refl
 
--- src/descent.rt:69:13
 returns : tie.Need-returns Inv-loop μ-loop
 returns c = seek-whole _ _ _ _ _ _ (length-words (c .before .before .before .before .before .args .links .now)) (sym (seek-stop _ _ _ _ _ (c .if1 .taken)) ∙ c .before .before .loop .inv)
 
--- src/descent.rt:71:12
 same-at-requires : tie.Need-same-at-requires Inv-loop μ-loop
 same-at-requires c κs = search needs
 
--- src/descent.rt:72:13
 returns-2 : tie.Need-returns-2 Inv-loop μ-loop
 returns-2 c = seek-whole _ _ _ _ _ _ (length-words (c .before .before .before .before .before .before .before .args .links .now)) (sym (seek-hit _ _ _ _ _ _ (c .before .before .before .loop-test .taken) (c .before .before .if1 .left) (c .before .same-at .ensures) (c .if2 .taken)) ∙ c .before .before .before .before .loop .inv)
 
--- src/descent.rt:75:9
 next-requires : tie.Need-next-requires Inv-loop μ-loop
 next-requires c κs = search needs
 
--- src/descent.rt:76:9
 sub-left : tie.Need-sub-left Inv-loop μ-loop
 sub-left c = search needs
 
--- src/descent.rt:67:5
 loop-less : tie.Need-loop-less Inv-loop μ-loop
 loop-less c = search needs
 
--- src/descent.rt:67:5
 loop-again : tie.Need-loop-again Inv-loop μ-loop
 loop-again c = sym (seek-next _ _ _ _ _ _ _ (c .before .before .before .before .loop-test .taken) (c .before .before .before .if1 .left) (c .before .before .same-at .ensures) (c .before .if2 .left) (c .next .ensures)) ∙ c .before .before .before .before .before .loop .inv
 
--- src/descent.rt:61:1
 returns-3 : tie.Need-returns-3 Inv-loop μ-loop
 returns-3 c = seek-whole _ _ _ _ _ _ (length-words (c .before .before .before .before .args .links .now)) (sym (seek-end _ _ _ _ _ (omega (arith, c .loop-test .left))) ∙ c .before .loop .inv)
 

@@ -6,12 +6,6 @@ use Rattle.trees.proofs.Descents.{reach, reach-down, reach-here, reach-last, sm
 use borrow.Author.Needs.{needs}
 use Rattle.quadtree.proofs.descent.leaf_of.Statement.{statement}
 use Rattle.quadtree.proofs.descent.leaf_of.Tie as tie
-use Rattle.quadtree.proofs.descent.leaf_of.Reads as reads
-use Rattle.quadtree.proofs.descent.leaf_of.Lts as lts
-use Rattle.geometry.proofs.plane.Rectangle.child.Reads as plane-Rectangle-child-reads
-use Rattle.geometry.proofs.plane.Rectangle.child_index.Reads as child-index-reads
-use Rattle.pool.proofs.child.Reads as child-reads
-use Rattle.pool.proofs.group.Reads as group-reads
 
 abbrev Inv-loop : tie.InvT-loop
 Inv-loop nodes i levels point at₀ b₀ left₀ at b left = reach 4 (words nodes) (place2 point) left (sides2 b) at ≡ reach 4 (words nodes) (place2 point) left₀ (sides2 b₀) at₀
@@ -19,51 +13,39 @@ Inv-loop nodes i levels point at₀ b₀ left₀ at b left = reach 4 (words node
 abbrev μ-loop : tie.MeasureT-loop
 μ-loop nodes i levels point at₀ b₀ left₀ at b left = left
 
--- src/descent.rt:27:5
 loop-holds : tie.Need-loop-holds Inv-loop μ-loop
 loop-holds c = refl
 
--- src/descent.rt:28:13
 group-requires : tie.Need-group-requires Inv-loop μ-loop
 group-requires c κs = search needs
 
--- src/descent.rt:30:13
 returns : tie.Need-returns Inv-loop μ-loop
 returns c = sym (reach-here _ _ _ _ _ _ _ (c .before .group .ensures) (c .if1 .taken)) ∙ c .before .before .before .loop .inv
 
--- src/descent.rt:32:18
 child-index-requires : tie.Need-child-index-requires Inv-loop μ-loop
 child-index-requires c κs = search needs
 
--- src/descent.rt:32:17
 cast-c : tie.Need-cast-c Inv-loop μ-loop
 cast-c c = search needs
 
--- src/descent.rt:33:9
 child-requires : tie.Need-child-requires Inv-loop μ-loop
 child-requires c κs = search needs
 
--- src/descent.rt:34:21
 cast-child : tie.Need-cast-child Inv-loop μ-loop
 cast-child c = search needs
 
--- src/descent.rt:34:9
 child-requires-2 : tie.Need-child-requires-2 Inv-loop μ-loop
 child-requires-2 c κs = search needs
 
--- src/descent.rt:35:9
 sub-left : tie.Need-sub-left Inv-loop μ-loop
 sub-left c = search needs
 
--- src/descent.rt:27:5
 loop-less : tie.Need-loop-less Inv-loop μ-loop
 loop-less c = search needs
 
--- src/descent.rt:27:5
 loop-again : tie.Need-loop-again Inv-loop μ-loop
 loop-again c = sym (reach-down _ _ _ _ _ _ _ _ _ _ (c .before .before .before .before .before .loop-test .taken) (c .before .before .before .before .group .ensures) (c .before .before .before .if1 .left) (small-route _ _ 4 _ refl (c .before .before .child-index .ensures)) (c .before .child .ensures .0) (c .child2 .ensures)) ∙ c .before .before .before .before .before .before .loop .inv
 
--- src/descent.rt:21:1
 returns-2 : tie.Need-returns-2 Inv-loop μ-loop
 returns-2 c = sym (reach-last _ _ _ _ _ _ (omega (arith, c .loop-test .left))) ∙ c .before .loop .inv
 

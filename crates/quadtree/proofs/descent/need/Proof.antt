@@ -9,13 +9,6 @@ use Rattle.trees.proofs.Descents.{Counting, counting-apart, counting-end, count
 use borrow.Author.Needs.{needs}
 use Rattle.quadtree.proofs.descent.need.Statement.{statement}
 use Rattle.quadtree.proofs.descent.need.Tie as tie
-use Rattle.quadtree.proofs.descent.need.Reads as reads
-use Rattle.quadtree.proofs.descent.need.Lts as lts
-use Rattle.geometry.proofs.plane.Rectangle.child.Reads as child-reads
-use Rattle.geometry.proofs.plane.Rectangle.child_index.Reads as child-index-reads
-use Rattle.pool.proofs.count.Reads as count-reads
-use Rattle.pool.proofs.first.Reads as first-reads
-use Rattle.quadtree.proofs.descent.all_go.Reads as all-go-reads
 
 abbrev Inv-loop : tie.InvT-loop
 Inv-loop nodes links points i levels capacity point n head b₀ left₀ more₀ b left more = (more + left ≡ left₀) × Counting capacity (pointAt 2 (words points)) (place2 point) (words nodes) (words links) i left₀ (sides2 b₀) left (sides2 b) more
@@ -23,67 +16,51 @@ Inv-loop nodes links points i levels capacity point n head b₀ left₀ more₀ 
 abbrev μ-loop : tie.MeasureT-loop
 μ-loop nodes links points i levels capacity point n head b₀ left₀ more₀ b left more = left
 
--- src/descent.rt:109:9
 count-requires : tie.Need-count-requires Inv-loop μ-loop
 count-requires c κs = search needs
 
--- src/descent.rt:111:9
 returns : tie.Need-returns Inv-loop μ-loop
 returns c = needs-room _ _ _ _ _ _ _ _ _ (c .before .count .ensures) (c .if1 .taken)
 
--- src/descent.rt:113:9
 first-requires : tie.Need-first-requires Inv-loop μ-loop
 first-requires c κs = search needs
 
--- src/descent.rt:117:5
 loop-holds : tie.Need-loop-holds Inv-loop μ-loop
 loop-holds c = (omega arith, counting-start _ _ _ _ _ _ _ _)
 
--- src/descent.rt:118:18
 child-index-requires : tie.Need-child-index-requires Inv-loop μ-loop
 child-index-requires c κs = search needs
 
--- src/descent.rt:118:17
 cast-c : tie.Need-cast-c Inv-loop μ-loop
 cast-c c = search needs
 
--- src/descent.rt:119:13
 all-go-requires : tie.Need-all-go-requires Inv-loop μ-loop
 all-go-requires c κs = search needs
 
--- src/descent.rt:121:20
 add-result : tie.Need-add-result Inv-loop μ-loop
 add-result c = search needs
 
--- src/descent.rt:121:13
 returns-2 : tie.Need-returns-2 Inv-loop μ-loop
 returns-2 c = counting-apart _ _ _ _ _ _ _ _ _ _ _ _ _ _ _ (c .before .before .before .before .loop .inv .1) (c .before .before .before .loop-test .taken) (c .before .before .before .before .before .first .ensures) (small-route _ _ 4 _ refl (c .before .before .child-index .ensures)) (c .before .all-go .ensures) (said-no _ _ refl (c .if2 .taken)) (c .before .before .before .before .before .before .before .count .ensures) (c .before .before .before .before .before .before .if1 .left)
 
--- src/descent.rt:123:21
 cast-child : tie.Need-cast-child Inv-loop μ-loop
 cast-child c = search needs
 
--- src/descent.rt:123:9
 child-requires : tie.Need-child-requires Inv-loop μ-loop
 child-requires c κs = search needs
 
--- src/descent.rt:124:9
 add-more : tie.Need-add-more Inv-loop μ-loop
 add-more c = search needs
 
--- src/descent.rt:125:9
 sub-left : tie.Need-sub-left Inv-loop μ-loop
 sub-left c = search needs
 
--- src/descent.rt:117:5
 loop-less : tie.Need-loop-less Inv-loop μ-loop
 loop-less c = search needs
 
--- src/descent.rt:117:5
 loop-again : tie.Need-loop-again Inv-loop μ-loop
 loop-again c = (omega (arith, c .before .before .before .before .before .loop .inv .0, c .before .before .before .before .loop-test .taken), counting-on _ _ _ _ _ _ _ _ _ _ _ _ _ _ _ (c .before .before .before .before .before .loop .inv .1) (c .before .before .before .before .loop-test .taken) (c .before .before .before .before .before .before .first .ensures) (small-route _ _ 4 _ refl (c .before .before .before .child-index .ensures)) (c .before .before .all-go .ensures) (said-yes _ _ refl (c .before .if2 .left)) (c .child .ensures))
 
--- src/descent.rt:106:1
 returns-3 : tie.Need-returns-3 Inv-loop μ-loop
 returns-3 c = counting-end _ _ _ _ _ _ _ _ _ _ _ _ (c .before .loop .inv .1) (omega (arith, c .loop-test .left)) (c .before .before .before .before .count .ensures) (c .before .before .before .if1 .left)
 

@@ -4,41 +4,28 @@ use Rattle.trees.proofs.Turns.{parts}
 use borrow.Author.Needs.{needs}
 use Rattle.quadtree.proofs.insert.subdivide.Statement.{statement}
 use Rattle.quadtree.proofs.insert.subdivide.Tie as tie
-use Rattle.quadtree.proofs.insert.subdivide.Reads as reads
-use Rattle.quadtree.proofs.insert.subdivide.Lts as lts
-use Rattle.groups.proofs.split.Reads as split-reads
-use Rattle.pool.proofs.first.Reads as first-reads
-use Rattle.quadtree.proofs.insert.turns_of.Reads as turns-of-reads
 
--- src/insert.rt:61:9
 first-requires : tie.Need-first-requires
 first-requires c κs = search needs
 
--- src/insert.rt:63:43
 slice-aggregate-turns-of : tie.Need-slice-aggregate-turns-of
 slice-aggregate-turns-of c = search needs
 
--- src/insert.rt:63:5
 turns-of-requires : tie.Need-turns-of-requires
 turns-of-requires c κs = search needs
 
--- src/insert.rt:64:31
 slice-aggregate-split : tie.Need-slice-aggregate-split
 slice-aggregate-split c = search needs
 
--- src/insert.rt:64:5
 split-requires : tie.Need-split-requires
 split-requires c κs = search needs
 
--- src/insert.rt:58:1
 same-length : tie.Need-same-length
 same-length c = search needs
 
--- src/insert.rt:58:1
 same-length-2 : tie.Need-same-length-2
 same-length-2 c = search needs
 
--- src/insert.rt:58:1
 returns : tie.Need-returns
 returns c = λ few. parts 4 _ _ _ _ _ _ _ _ (replicate 513 0) _ refl (c .before .before .before .before .before .before .before .before .before .before .before .before .first .ensures) (c .before .before .before .before .before .before .before .before .before .turns-of .ensures) few (c .before .before .before .before .split .ensures .1)
 

@@ -10,12 +10,6 @@ use Rattle.trees.proofs.Turns.{Turning, turning-start, turning-step, turning-st
 use borrow.Author.Needs.{needs}
 use Rattle.quadtree.proofs.insert.turns_of.Statement.{statement}
 use Rattle.quadtree.proofs.insert.turns_of.Tie as tie
-use Rattle.quadtree.proofs.insert.turns_of.Reads as reads
-use Rattle.quadtree.proofs.insert.turns_of.Lts as lts
-use Rattle.geometry.proofs.plane.Rectangle.child_index.Reads as child-index-reads
-use Rattle.pool.proofs.next.Reads as next-reads
-use Rattle.quadtree.proofs.insert.turn_to.Reads as turn-to-reads
-use Rattle.quadtree.proofs.place.point_at.Reads as point-at-reads
 
 abbrev Inv-loop : tie.InvT-loop
 Inv-loop links points head bounds turns₀ left₀ p₀ m₀ turns left p m = Turning (λ q. route (sides2 bounds) (pointAt 2 (words points) q .at)) (words links) left₀ p₀ turns₀ m₀ turns left p m
@@ -23,55 +17,42 @@ Inv-loop links points head bounds turns₀ left₀ p₀ m₀ turns left p m = Tu
 abbrev μ-loop : tie.MeasureT-loop
 μ-loop links points head bounds turns₀ left₀ p₀ m₀ turns left p m = left
 
--- src/insert.rt:44:5
 loop-holds : tie.Need-loop-holds Inv-loop μ-loop
 loop-holds c = turning-start _ _ _ _ _ _
 
--- src/insert.rt:46:13
 same-length : tie.Need-same-length Inv-loop μ-loop
 same-length c = c .before .before .loop .inv .same
 
--- src/insert.rt:46:13
 returns : tie.Need-returns Inv-loop μ-loop
 returns c = turning-stop _ _ _ _ _ _ _ _ _ _ _ (c .before .before .loop .inv) (c .if1 .taken) (length-words (c .before .before .before .before .before .before .args .links .now))
 
--- src/insert.rt:48:13
 point-at-requires : tie.Need-point-at-requires Inv-loop μ-loop
 point-at-requires c κs = search needs
 
--- src/insert.rt:49:18
 child-index-requires : tie.Need-child-index-requires Inv-loop μ-loop
 child-index-requires c κs = search needs
 
--- src/insert.rt:49:17
 cast-c : tie.Need-cast-c Inv-loop μ-loop
 cast-c c = search needs
 
--- src/insert.rt:50:9
 turn-to-requires : tie.Need-turn-to-requires Inv-loop μ-loop
 turn-to-requires c κs = search needs
 
--- src/insert.rt:51:9
 next-requires : tie.Need-next-requires Inv-loop μ-loop
 next-requires c κs = search needs
 
--- src/insert.rt:52:9
 sub-left : tie.Need-sub-left Inv-loop μ-loop
 sub-left c = search needs
 
--- src/insert.rt:44:5
 loop-less : tie.Need-loop-less Inv-loop μ-loop
 loop-less c = search needs
 
--- src/insert.rt:44:5
 loop-again : tie.Need-loop-again Inv-loop μ-loop
 loop-again c = turning-step _ _ _ _ _ _ _ _ _ _ _ _ _ _ (c .before .before .before .before .before .before .before .before .before .loop .inv) (c .before .before .before .before .before .before .before .before .loop-test .taken) (c .before .before .before .before .before .before .before .if1 .left) (small-route _ _ 4 _ refl (c .before .before .before .before .before .child-index .ensures) ∙ ap (route (sides2 (c .before .before .before .before .before .before .before .before .before .before .before .before .before .args .bounds))) (c .before .before .before .before .before .before .point-at .ensures)) (c .before .before .before .turn-to .kept .0) (c .before .before .before .turn-to .ensures) (c .next .ensures)
 
--- src/insert.rt:38:1
 same-length-2 : tie.Need-same-length-2 Inv-loop μ-loop
 same-length-2 c = c .before .loop .inv .same
 
--- src/insert.rt:38:1
 returns-2 : tie.Need-returns-2 Inv-loop μ-loop
 returns-2 c = turning-end _ _ _ _ _ _ _ _ _ _ _ (c .before .loop .inv) (omega (arith, c .loop-test .left)) (length-words (c .before .before .before .before .before .args .links .now))
 

@@ -6,57 +6,40 @@ use Rattle.trees.proofs.Tables.{nears-more, nears-none, ordered-all}
 use borrow.Author.Needs.{needs}
 use Rattle.quadtree.proofs.nearest.by_distance.Statement.{statement}
 use Rattle.quadtree.proofs.nearest.by_distance.Tie as tie
-use Rattle.quadtree.proofs.nearest.by_distance.Reads as reads
-use Rattle.quadtree.proofs.nearest.by_distance.Lts as lts
-use Rattle.geometry.proofs.plane.Rectangle.child.Reads as child-reads
-use Rattle.geometry.proofs.plane.Rectangle.min_distance_sq.Reads as min-distance-sq-reads
-use Rattle.knn.proofs.order_children.Reads as order-children-reads
 
--- src/nearest.rt:32:13
 child-requires : tie.Need-child-requires
 child-requires c κs = search needs
 
--- src/nearest.rt:32:9
 min-distance-sq-requires : tie.Need-min-distance-sq-requires
 min-distance-sq-requires c κs = search needs
 
--- src/nearest.rt:33:13
 child-requires-2 : tie.Need-child-requires-2
 child-requires-2 c κs = search needs
 
--- src/nearest.rt:33:9
 min-distance-sq-requires-2 : tie.Need-min-distance-sq-requires-2
 min-distance-sq-requires-2 c κs = search needs
 
--- src/nearest.rt:34:13
 child-requires-3 : tie.Need-child-requires-3
 child-requires-3 c κs = search needs
 
--- src/nearest.rt:34:9
 min-distance-sq-requires-3 : tie.Need-min-distance-sq-requires-3
 min-distance-sq-requires-3 c κs = search needs
 
--- src/nearest.rt:35:13
 child-requires-4 : tie.Need-child-requires-4
 child-requires-4 c κs = search needs
 
--- src/nearest.rt:35:9
 min-distance-sq-requires-4 : tie.Need-min-distance-sq-requires-4
 min-distance-sq-requires-4 c κs = search needs
 
--- src/nearest.rt:38:20
 slice-aggregate-order-children : tie.Need-slice-aggregate-order-children
 slice-aggregate-order-children c = search needs
 
--- src/nearest.rt:38:31
 slice-aggregate-order-children-2 : tie.Need-slice-aggregate-order-children-2
 slice-aggregate-order-children-2 c = search needs
 
--- src/nearest.rt:38:5
 order-children-requires : tie.Need-order-children-requires
 order-children-requires c κs = search needs
 
--- src/nearest.rt:29:1
 returns : tie.Need-returns
 returns c = ordered-all (sides2 (c .before .before .before .before .before .before .before .before .before .before .before .before .before .args .bounds)) (place2 (c .before .before .before .before .before .before .before .before .before .before .before .before .before .args .target)) 4 _ (replicate 4 0) _ _ (omega arith) (nears-more _ _ _ 0 3 _ _ (c .before .before .before .before .before .before .before .before .before .before .before .min-distance-sq .ensures) (c .before .before .before .before .before .before .before .before .before .before .before .before .child .ensures) (nears-more _ _ _ 1 2 _ _ (c .before .before .before .before .before .before .before .before .before .min-distance-sq2 .ensures) (c .before .before .before .before .before .before .before .before .before .before .child2 .ensures) (nears-more _ _ _ 2 1 _ _ (c .before .before .before .before .before .before .before .min-distance-sq3 .ensures) (c .before .before .before .before .before .before .before .before .child3 .ensures) (nears-more _ _ _ 3 0 _ _ (c .before .before .before .before .before .min-distance-sq4 .ensures) (c .before .before .before .before .before .before .child4 .ensures) (nears-none _ _ 4))))) refl (c .before .before .order-children .ensures)
 

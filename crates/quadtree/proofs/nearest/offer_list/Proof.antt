@@ -13,12 +13,6 @@ use Rattle.trees.proofs.Tables.{Offering, offering-start, offering-step, offeri
 use borrow.Author.Needs.{needs}
 use Rattle.quadtree.proofs.nearest.offer_list.Statement.{statement}
 use Rattle.quadtree.proofs.nearest.offer_list.Tie as tie
-use Rattle.quadtree.proofs.nearest.offer_list.Reads as reads
-use Rattle.quadtree.proofs.nearest.offer_list.Lts as lts
-use Rattle.geometry.proofs.plane.Point2D.distance_sq.Reads as distance-sq-reads
-use Rattle.knn.proofs.offer.Reads as offer-reads
-use Rattle.pool.proofs.next.Reads as next-reads
-use Rattle.quadtree.proofs.place.point_at.Reads as point-at-reads
 
 abbrev Inv-loop : tie.InvT-loop
 Inv-loop links points head target k dist₀ item₀ n left₀ p₀ m₀ dist item left p m = Offering k (candidate (pointAt 2 (words points)) (place2 target)) (words links) left₀ p₀ dist₀ item₀ m₀ dist item left p m
@@ -26,59 +20,45 @@ Inv-loop links points head target k dist₀ item₀ n left₀ p₀ m₀ dist ite
 abbrev μ-loop : tie.MeasureT-loop
 μ-loop links points head target k dist₀ item₀ n left₀ p₀ m₀ dist item left p m = left
 
--- src/nearest.rt:49:5
 loop-holds : tie.Need-loop-holds Inv-loop μ-loop
 loop-holds c = offering-start _ _ _ _ _ _ _ _
 
--- src/nearest.rt:51:13
 same-length : tie.Need-same-length Inv-loop μ-loop
 same-length c = c .before .before .loop .inv .same-d
 
--- src/nearest.rt:51:13
 same-length-2 : tie.Need-same-length-2 Inv-loop μ-loop
 same-length-2 c = c .before .before .loop .inv .same-p
 
--- src/nearest.rt:51:13
 returns : tie.Need-returns Inv-loop μ-loop
 returns c = offering-stop _ _ _ _ _ _ _ _ _ _ _ _ _ _ (c .before .before .loop .inv) (c .if1 .taken) (length-words (c .before .before .before .before .before .before .before .args .links .now))
 
--- src/nearest.rt:53:13
 point-at-requires : tie.Need-point-at-requires Inv-loop μ-loop
 point-at-requires c κs = search needs
 
--- src/nearest.rt:54:13
 distance-sq-requires : tie.Need-distance-sq-requires Inv-loop μ-loop
 distance-sq-requires c κs = search needs
 
--- src/nearest.rt:55:9
 offer-requires : tie.Need-offer-requires Inv-loop μ-loop
 offer-requires c κs = search needs
 
--- src/nearest.rt:56:9
 next-requires : tie.Need-next-requires Inv-loop μ-loop
 next-requires c κs = search needs
 
--- src/nearest.rt:57:9
 sub-left : tie.Need-sub-left Inv-loop μ-loop
 sub-left c = search needs
 
--- src/nearest.rt:49:5
 loop-less : tie.Need-loop-less Inv-loop μ-loop
 loop-less c = search needs
 
--- src/nearest.rt:49:5
 loop-again : tie.Need-loop-again Inv-loop μ-loop
 loop-again c = offering-step _ _ _ _ _ _ _ _ _ _ _ _ _ _ _ _ _ _ (c .before .before .before .before .before .before .before .before .before .before .before .before .loop .inv) (c .before .before .before .before .before .before .before .before .before .before .before .loop-test .taken) (c .before .before .before .before .before .before .before .before .before .before .if1 .left) (ap (λ (d : Float). at d (c .before .before .before .before .before .before .before .before .before .before .before .before .loop .p)) (c .before .before .before .before .before .before .before .before .distance-sq .ensures ∙ ap (λ (v : List Float). squared v (place2 (c .before .before .before .before .before .before .before .before .before .before .before .before .before .before .before .before .before .args .target))) (c .before .before .before .before .before .before .before .before .before .point-at .ensures))) (c .before .before .before .before .before .offer .kept .0) (c .before .before .before .before .before .offer .kept .1 .0) (c .before .before .before .before .before .offer .ensures .1 .1) (c .next .ensures)
 
--- src/nearest.rt:43:1
 same-length-3 : tie.Need-same-length-3 Inv-loop μ-loop
 same-length-3 c = c .before .loop .inv .same-d
 
--- src/nearest.rt:43:1
 same-length-4 : tie.Need-same-length-4 Inv-loop μ-loop
 same-length-4 c = c .before .loop .inv .same-p
 
--- src/nearest.rt:43:1
 returns-2 : tie.Need-returns-2 Inv-loop μ-loop
 returns-2 c = offering-end _ _ _ _ _ _ _ _ _ _ _ _ _ _ (c .before .loop .inv) (omega (arith, c .loop-test .left)) (length-words (c .before .before .before .before .before .before .args .links .now))
 

@@ -6,23 +6,16 @@ use Rattle.words.specs.Words.{words}
 use borrow.Author.Needs.{needs}
 use Rattle.quadtree.proofs.place.payload.Statement.{statement}
 use Rattle.quadtree.proofs.place.payload.Tie as tie
-use Rattle.quadtree.proofs.place.payload.Reads as reads
-use Rattle.quadtree.proofs.place.payload.Lts as lts
-use Rattle.words.proofs.get.Reads as get-reads
 
--- src/place.rt:22:17
 mul-get : tie.Need-mul-get
 mul-get c = search needs
 
--- src/place.rt:22:17
 add-get : tie.Need-add-get
 add-get c = search needs
 
--- src/place.rt:22:5
 get-requires : tie.Need-get-requires
 get-requires c κs = search needs
 
--- src/place.rt:19:1
 returns : tie.Need-returns
 returns c = c .get .ensures ∙ ap (λ (i : ℕ). getD (words (c .before .before .args .points .now)) i 0) {x = 6 * c .before .before .args .p + 4} {y = 2 * (3 * c .before .before .args .p) + 4} (omega arith)
 

@@ -2,34 +2,25 @@ use Rattle.trees.proofs.Walks.{note-yes, note-full, note-no}
 use borrow.Author.Needs.{needs}
 use Rattle.quadtree.proofs.search.note.Statement.{statement}
 use Rattle.quadtree.proofs.search.note.Tie as tie
-use Rattle.quadtree.proofs.search.note.Reads as reads
-use Rattle.quadtree.proofs.search.note.Lts as lts
 
--- src/search.rt:51:13
 mul-found : tie.Need-mul-found
 mul-found c = search needs
 
--- src/search.rt:51:13
 slice-write-found : tie.Need-slice-write-found
 slice-write-found c = search needs
 
--- src/search.rt:52:20
 add-result : tie.Need-add-result
 add-result c = search needs
 
--- src/search.rt:52:13
 same-length : tie.Need-same-length
 same-length c = search needs
 
--- src/search.rt:52:13
 returns : tie.Need-returns
 returns c = note-yes _ _ _ _ (c .before .if1 .taken)
 
--- src/search.rt:46:1
 returns-2 : tie.Need-returns-2
 returns-2 c = note-full _ _ _ _ (c .before .if1 .taken) (c .if2 .left)
 
--- src/search.rt:46:1
 returns-3 : tie.Need-returns-3
 returns-3 c = note-no _ _ _ _ (c .if1 .left)
 

@@ -7,32 +7,22 @@ use Rattle.quadtree.specs.Questions.{meets}
 use borrow.Author.Needs.{needs}
 use Rattle.quadtree.proofs.search.reaches.Statement.{statement}
 use Rattle.quadtree.proofs.search.reaches.Tie as tie
-use Rattle.quadtree.proofs.search.reaches.Reads as reads
-use Rattle.quadtree.proofs.search.reaches.Lts as lts
-use Rattle.geometry.proofs.plane.Rectangle.intersects.Reads as intersects-reads
-use Rattle.geometry.proofs.plane.Rectangle.min_distance_sq.Reads as min-distance-sq-reads
 
--- src/search.rt:30:26
 enum-known-q : tie.Need-enum-known-q
 enum-known-q c = search needs
 
--- src/search.rt:30:43
 min-distance-sq-requires : tie.Need-min-distance-sq-requires
 min-distance-sq-requires c κs = search needs
 
--- src/search.rt:31:23
 enum-known-q-2 : tie.Need-enum-known-q-2
 enum-known-q-2 c = search needs
 
--- src/search.rt:31:33
 intersects-requires : tie.Need-intersects-requires
 intersects-requires c κs = search needs
 
--- src/search.rt:26:1
 returns : tie.Need-returns
 returns c = ap (λ (t : Float). not (lt (c .before .before .q .given .0 .1 .0) t)) (c .min-distance-sq .ensures) ∙ sym (ap (λ (q : Question). meets q (sides2 (c .before .before .before .before .args .bounds))) (c .before .before .q .given .1))
 
--- src/search.rt:26:1
 returns-2 : tie.Need-returns-2
 returns-2 c = c .intersects .ensures ∙ sym (ap (λ (q : Question). meets q (sides2 (c .before .before .before .before .args .bounds))) (c .before .before .q2 .given .1))
 
