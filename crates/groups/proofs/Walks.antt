@@ -140,12 +140,18 @@ deal-go ways k ts f g j s r q v c i ef nz ev ec ei er =
     rw (ef, ej, er, ei, ec, ev) (sym (ifz-no q _ _ nz))
 
 -- ---- split
-pub splits : (ways : ℕ) (ts : List ℕ) (n n1 n2 n3 x : List ℕ) (r : Pool) (i h k j : ℕ) → h ≡ getD n (4 * i + 1) 0 → k ≡ getD n 0 0 → n1 ≡ taken ways n → j ≡ kid ways k 0 → n2 ≡ clearedFrom ways n1 j
+pub splits-none : (ways : ℕ) (ts : List ℕ) (n x : List ℕ) (i k : ℕ) → k ≡ getD n 0 0 → k ≡ 0 → ((0 ≡ getD n 0 0) × (both n x ≡ parted ways ts (both n x) i)) × Splits ways ts (both n x) (both n x) i 0
+unfolding parted
+splits-none ways ts n x i k ek z =
+    let e : both n x ≡ parted ways ts (both n x) i = sym (ifz-yes (getD n 0 0) _ _ (sym ek ∙ z)) in
+    ((sym z ∙ ek, e), subst (λ a. Splits ways ts (both n x) (both n x) i a) (sym ek ∙ z) (subst (λ p. Splits ways ts (both n x) p i (getD n 0 0)) (sym e) (parted-world ways ts (both n x) i)))
+
+pub splits : (ways : ℕ) (ts : List ℕ) (n n1 n2 n3 x : List ℕ) (r : Pool) (i h u k j : ℕ) → u ≡ getD n 0 0 → u ≢ 0 → h ≡ getD n (4 * i + 1) 0 → k ≡ getD n 0 0 → n1 ≡ taken ways n → j ≡ kid ways k 0 → n2 ≡ clearedFrom ways n1 j
     → n3 ≡ set n2 (4 * i + 0) k → r ≡ dealing ways k ts (length x) 0 (both n3 x) h → ((k ≡ getD n 0 0) × (r ≡ parted ways ts (both n x) i)) × Splits ways ts (both n x) r i k
 unfolding parted
-splits ways ts n n1 n2 n3 x r i h k j eh ek e1 ej e2 e3 er =
+splits ways ts n n1 n2 n3 x r i h u k j eu nz eh ek e1 ej e2 e3 er =
     let e0 : 4 * i + 0 ≡ 4 * i = omega arith in
-    let e : r ≡ parted ways ts (both n x) i = er ∙ rw (e3, e0, e2, ej, e1, eh, ek) in
+    let e : r ≡ parted ways ts (both n x) i = er ∙ rw (e3, e0, e2, ej, e1, eh, ek) (sym (ifz-no (getD n 0 0) _ _ (λ z. nz (eu ∙ z)))) in
     ((ek, e), subst (λ a. Splits ways ts (both n x) r i a) (sym ek) (subst (λ p. Splits ways ts (both n x) p i (getD n 0 0)) (sym e) (parted-world ways ts (both n x) i)))
 
 -- ---- merge

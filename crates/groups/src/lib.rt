@@ -1,5 +1,6 @@
 // Groups of nodes as a whole: whether enough are free, all of them free at the start, the split of a node and the merge of its children.
-// What is written and what it means is defined in `pool`, whose functions these put together. Total as those are.
+// What is written and what it means is defined in `pool`, whose functions these put together. Total as those are; a walk
+// over a list has no more steps than there are links.
 ghost use mathlib.Core.Path.{_≡_};
 ghost use Prim.Native.Nat.{_-_, _/_, _<_};
 ghost use lib.ListN.{length, getD, set};
@@ -78,6 +79,7 @@ fn free_groups(nodes: &mut [u8], ways: u8)
     }
 }
 
+// Makes node i undivided and empty.
 fn clear_node(nodes: &mut [u8], i: usize)
     ensures { λ _. ⌜ words (now (nodes .exit)) ≡ cleared (words (now (nodes .entry))) i ⌝ }
 {
@@ -142,11 +144,15 @@ fn deal(nodes: &mut [u8], links: &mut [u8], k: u32, ways: u8, head: u32, turns: 
     }
 }
 
-// Divides node i: it gets the first free group, and its places are dealt out by their turns. Returns the group.
+// Divides node i: it gets the first free group, and its places are dealt out by their turns. Returns the group, or 0 where none is free.
 pub fn split(nodes: &mut [u8], links: &mut [u8], i: usize, ways: u8, turns: &[u8]) -> u32
     ensures { λ r. ⌜ (r ≡ getD (words (now (nodes .entry))) 0 0) × (pool (now (nodes .exit)) (now (links .exit)) ≡ parted ways (now (turns .entry)) (pool (now (nodes .entry)) (now (links .entry))) i) ⌝ }
     ensures tree { λ r. ⌜ Splits ways (now (turns .entry)) (pool (now (nodes .entry)) (now (links .entry))) (pool (now (nodes .exit)) (now (links .exit))) i r ⌝ }
 {
+    let free = get(nodes, 0);
+    if free == 0 {
+        return 0;
+    }
     let head = first(nodes, i);
     let k = take_group(nodes, ways);
     let j = child(ways, k, 0);

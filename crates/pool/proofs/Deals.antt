@@ -266,7 +266,9 @@ module _ (d ways : ℕ) (ts : List ℕ) (s : Pool) (i : ℕ) (l : List ℕ) (g :
 
   split-is : parted ways ts s i ≡ split-pool
   unfolding parted split-pool n3 n2 n1
-  split-is = ap (λ k. dealing ways k ts (length (s .links)) 0 (both (set (clearedFrom ways (taken ways (s .nodes)) (kid ways k 0)) (4 * i) k) (s .links)) (getD (s .nodes) (4 * i + 1) 0)) (w .free .0)
+  split-is =
+      ifz-no (getD (s .nodes) 0 0) _ _ (λ z. w .free .1 (sym (w .free .0) ∙ z))
+      ∙ ap (λ k. dealing ways k ts (length (s .links)) 0 (both (set (clearedFrom ways (taken ways (s .nodes)) (kid ways k 0)) (4 * i) k) (s .links)) (getD (s .nodes) (4 * i + 1) 0)) (w .free .0)
 
 pub parted-world : (ways : ℕ) (ts : List ℕ) (s : Pool) (i : ℕ) → Splits ways ts s (parted ways ts s i) i (getD (s .nodes) 0 0)
 unfolding Splits

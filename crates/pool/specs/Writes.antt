@@ -117,13 +117,13 @@ unfolding appended turnAt
 dealing ways k ts zero j s q = s
 dealing ways k ts (suc f) j s q = ifz q s (dealing ways k ts f (suc j) (appended s (kid ways k (turnAt ways ts j)) q) (getD (s .links) q 0))
 
--- node i gets the first free group, and the places of its list are dealt out
+-- node i gets the first free group, and the places of its list are dealt out; nothing changes where no group is free
 unfoldable pub parted : ℕ → List ℕ → Pool → ℕ → Pool
 unfolding taken clearedFrom dealing
 parted ways ts s i =
     let k = getD (s .nodes) 0 0 in
     let n = set (clearedFrom ways (taken ways (s .nodes)) (kid ways k 0)) (4 * i) k in
-    dealing ways k ts (length (s .links)) 0 (both n (s .links)) (getD (s .nodes) (4 * i + 1) 0)
+    ifz k s (dealing ways k ts (length (s .links)) 0 (both n (s .links)) (getD (s .nodes) (4 * i + 1) 0))
 
 -- ---- a merge
 -- lists joined so far: the links, the first place and the last

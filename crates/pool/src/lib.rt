@@ -1,6 +1,6 @@
 // Places and nodes of trees in two lent slices of words: lists of places, free places, free groups of nodes.
 // `ways` is how many children a node has, so that both trees use the same functions. Nothing here knows of coordinates.
-// Every function is total: a place or a node that is not there reads as 0 and is not written, and a walk has no more steps than there are words.
+// Every function is total: a place or a node that is not there reads as 0 and is not written.
 ghost use mathlib.Core.Path.{_≡_};
 ghost use Prim.Native.Nat.{_+_, _-_, _*_, _%_, _<_};
 ghost use lib.ListN.{getD, set};
@@ -95,6 +95,7 @@ pub fn count_down(nodes: &mut [u8], i: usize)
     set_field(nodes, i, 3, v - 1);
 }
 
+// Makes p the last place of node i, which has one point more.
 fn end_with(nodes: &mut [u8], i: usize, p: u32)
     ensures { λ _. ⌜ words (now (nodes .exit)) ≡ ended (words (now (nodes .entry))) i p ⌝ }
 {
@@ -118,6 +119,7 @@ pub fn append(nodes: &mut [u8], links: &mut [u8], i: usize, p: u32)
     end_with(nodes, i, p);
 }
 
+// Where nothing comes after the place that leaves, b is the last.
 fn relast(nodes: &mut [u8], i: usize, after: u32, b: u32)
     ensures { λ _. ⌜ words (now (nodes .exit)) ≡ relasted (words (now (nodes .entry))) i after b ⌝ }
 {
