@@ -6,7 +6,7 @@ use Prim.Native.Nat.{ℕ, suc, _+_, _-_, _<_, _≤_, min}
 use native.Mathlib.Numerals.{add-one}
 use native.Mathlib.Omega.{arith}
 use lib.ListN.{length, getD, take, drop, length-append, length-map}
-use lib.Seq.{append-snoc, drop-append-add, drop-cons, drop-drop, getD-at, length-sets, length-take-le, sets, take-suc}
+use lib.Seq.{append-snoc, drop-append-add, drop-cons, drop-drop, getD-at, length-sets, length-take-le, sets, take-all, take-suc}
 use lib.Dec.{ltb}
 use lib.Ieee.{Float, nan, le}
 use Rattle.model.specs.Boxes.{Side, nodeDistance, part}
@@ -178,3 +178,13 @@ module _ (d : ℕ) (b : List Side) (c : List Float) (z : Tree d) where
 
   pub children-order : (ts : List (Tree d)) → map (renamed (child ts)) (placeEach [] (numbered 0 (far 0 ts))) ≡ placeEach [] (children d b c 0 ts)
   children-order ts = sym (placeEach-renamed (child ts) [] (numbered 0 (far 0 ts))) ∙ ap (placeEach []) (numbered-children 0 [] ts refl)
+
+  far-length : (n : ℕ) (ts : List (Tree d)) → length (far n ts) ≡ length ts
+  unfolding children
+  far-length n [] = refl
+  far-length n (t ∷ ts) = ap suc (far-length (suc n) ts)
+
+  -- the same, of what the function leaves
+  pub ordered-children : (ts : List (Tree d)) (ps : List ℕ) → length ts ≤ 8 → length ts ≤ length ps → map (renamed (child ts)) (ordered (far 0 ts) ps) ≡ placeEach [] (children d b c 0 ts)
+  ordered-children ts ps h k =
+      ap (λ (l : List Float). map (renamed (child ts)) (placeEach [] (numbered 0 l))) (take-all (min 8 (min (length (far 0 ts)) (length ps))) (far 0 ts) (omega (arith, far-length 0 ts, h, k))) ∙ children-order ts

@@ -196,3 +196,8 @@ module _ {A : Type 0} where
       cond-same InOrder (ltb (length t) k) (place x t) _ (λ l. place-order x t p f s)
       (λ l. cond-same InOrder (worst (λ w. le w (x .dist)) t) t (place x (dropLast t)) (λ m. s)
       (λ m. place-order x (dropLast t) p (drop-all (λ (e : At A). F64 (e .dist)) t f) (drop-order t s)))
+
+  -- k = 0 keeps nothing
+  pub keeps-nothing : (x : At A) → offer 0 x [] ≡ []
+  unfolding offer worst
+  keeps-nothing x = refl

@@ -40,7 +40,7 @@ unfolding ahead
 settle x [] = x ∷ []
 settle x (y ∷ ys) = elim (ahead (x .dist) (y ∷ ys)) [ true ↦ x ∷ y ∷ ys | false ↦ y ∷ settle x ys ]
 
--- "A full table turns away a distance ≥ the worst, else drops its last by (distance, arrival)."
+-- as the model's `offer`, with `settle` in place of `place`: "A full table turns away a distance ≥ the worst, else drops its last"
 unfoldable pub offered : {A : Type 0} → ℕ → At A → List (At A) → List (At A)
 unfolding settle
 offered k x t =

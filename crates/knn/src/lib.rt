@@ -48,7 +48,7 @@ fn insert(dist: &mut [f64], item: &mut [u32], n: usize, distance: f64, place: u3
     }
 }
 
-// The distance that a candidate must beat: +∞ while the table has room, −∞ where it keeps nothing.
+// The distance that a candidate must beat: +∞ while the table has room, −∞ where it keeps nothing. Both arrays of a table are as long as each other here.
 pub fn worst(dist: &[f64], count: usize, k: usize) -> f64
     ensures { λ r. ⌜ r ≡ bar (min (min k 512) (length (now (dist .entry)))) (take count (now (dist .entry))) ⌝ }
 {

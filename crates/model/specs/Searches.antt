@@ -14,7 +14,7 @@ unfoldable pub keep : {A : Type 0} → (A → Bool) → List A → List A
 keep f [] = []
 keep f (x ∷ xs) = elim (f x) [ true ↦ x ∷ keep f xs | false ↦ keep f xs ]
 
--- whether a plain scan for a squared radius, or for a box, gives a point
+-- whether a plain scan for a squared radius gives a point; for a box it is `within`
 unfoldable pub near : List Float → Float → Point → Bool
 near c rr p = le (squared (p .at) c) rr
 

@@ -69,7 +69,7 @@ Splits ways ts s r i k =
     (d : ℕ) (l : List ℕ) (g : ℕ) (fl fp : List ℕ) → 0 < ways → World (suc d) ways s i (leaf l) (g ∷ fl) fp → length l + 1 < 4294967296
     → (k ≡ g) × World (suc d) ways r i (branch g (flats d (dealt ways ts l))) fl fp × Frame (suc d) ways s r i (leaf l) (g ∷ fl) []
 
--- the order has each of the numbers below `ways` once
+-- sums over the order are sums over the numbers below `ways`: it has each of them once
 abbrev pub Once : ℕ → List ℕ → Type 0
 Once ways order = (f : ℕ → ℕ) → sumOf f order ≡ sumOf f (upFrom 0 ways)
 

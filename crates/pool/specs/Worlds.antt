@@ -26,7 +26,8 @@ abbrev pub Free : ℕ → List ℕ → ℕ → List ℕ → Type 0
 Free ways n h [] = h ≡ 0
 Free ways n h (k ∷ fl) = (h ≡ k) × (k ≢ 0) × (4 * kid ways k ways ≤ length n) × Free ways n (getD n (4 * kid ways k 0) 0) fl
 
--- a tree at node i, the free groups fl and the free places fp: each group and each place once at most, and node i is in none of the groups
+-- a tree at node i, the free groups fl and the free places fp: each group and each place once at most, node i is not the header and in none of the groups.
+-- That no place and no group is missing is not said here: it belongs to a tree's soundness
 pub record World (d ways : ℕ) (s : Pool) (i : ℕ) (t : PTree d) (fl fp : List ℕ) : Type 0 where
   pub rep : Rep d ways (s .nodes) (s .links) i t
   pub free : Free ways (s .nodes) (getD (s .nodes) 0 0) fl

@@ -87,7 +87,7 @@ unfolding given
 givenDown ways zero n = n
 givenDown ways (suc k) n = givenDown ways k (given ways n (suc k))
 
--- as many as 32 bits can name
+-- a number, or the largest of 32 bits
 abbrev pub named : ℕ → ℕ
 named m = min m 4294967295
 

@@ -1,6 +1,7 @@
 // Places and nodes of trees in two lent slices of words: lists of places, free places, free groups of nodes.
 // `ways` is how many children a node has, so that both trees use the same functions. Nothing here knows of coordinates.
-// Every function is total: a place or a node that is not there reads as 0 and is not written.
+// Every function is total: a place or a node that is not there reads as 0 and is not written. 0 is no place and no group, and who appends it or gives it
+// back loses what is free; what is then written is defined too (`Writes`).
 ghost use mathlib.Core.Path.{_≡_};
 ghost use Prim.Native.Nat.{_+_, _-_, _*_, _%_, _<_};
 ghost use lib.ListN.{getD, set};

@@ -72,3 +72,29 @@ words-set s i v hv h =
 -- nothing is stored past the last whole word
 pub words-set-out : (s : List ℕ) (i v : ℕ) → length s / 4 ≤ i → words s ≡ set (words s) i v
 words-set-out s i v h = sym (set-out (words s) i v (omega (arith, length-words s)))
+
+-- ---- where no byte is left past the last whole word, the words determine the bytes
+pub words-determine : (s t : List ℕ) → length s ≡ length t → length s % 4 ≡ 0 → ((k : ℕ) → getD s k 0 < 256) → ((k : ℕ) → getD t k 0 < 256) → words s ≡ words t → s ≡ t
+unfolding words
+words-determine [] [] e z hs ht w = refl
+words-determine [] (x ∷ t) e z hs ht w = absurd (omega arith)
+words-determine (a ∷ s) [] e z hs ht w = absurd (omega arith)
+words-determine (a ∷ []) (x ∷ t) e z hs ht w = absurd (omega arith)
+words-determine (a ∷ b ∷ []) (x ∷ t) e z hs ht w = absurd (omega arith)
+words-determine (a ∷ b ∷ c ∷ []) (x ∷ t) e z hs ht w = absurd (omega arith)
+words-determine (a ∷ b ∷ c ∷ d ∷ s) (x ∷ []) e z hs ht w = absurd (omega arith)
+words-determine (a ∷ b ∷ c ∷ d ∷ s) (x ∷ y ∷ []) e z hs ht w = absurd (omega arith)
+words-determine (a ∷ b ∷ c ∷ d ∷ s) (x ∷ y ∷ u ∷ []) e z hs ht w = absurd (omega arith)
+words-determine (a ∷ b ∷ c ∷ d ∷ s) (x ∷ y ∷ u ∷ v ∷ t) e z hs ht w =
+    ap (λ (k : ℕ). k ∷ b ∷ c ∷ d ∷ s) {x = a} {y = x} (omega (arith, top, hs 0, ht 0))
+    ∙ ap (λ (k : ℕ). x ∷ k ∷ c ∷ d ∷ s) {x = b} {y = y} (omega (arith, top, hs 0, ht 0, hs 1, ht 1))
+    ∙ ap (λ (k : ℕ). x ∷ y ∷ k ∷ d ∷ s) {x = c} {y = u} (omega (arith, top, hs 0, ht 0, hs 1, ht 1, hs 2, ht 2))
+    ∙ ap (λ (k : ℕ). x ∷ y ∷ u ∷ k ∷ s) {x = d} {y = v} (omega (arith, top, hs 0, ht 0, hs 1, ht 1, hs 2, ht 2))
+    ∙ ap (λ (l : List ℕ). x ∷ y ∷ u ∷ v ∷ l) (words-determine s t (omega (arith, e)) (omega (arith, z)) (λ k. hs (suc (suc (suc (suc k))))) (λ k. ht (suc (suc (suc (suc k))))) (ap rest w))
+  where
+    top : le4 a b c d ≡ le4 x y u v
+    top = ap (λ (l : List ℕ). getD l 0 0) w
+
+    rest : List ℕ → List ℕ
+    rest [] = []
+    rest (k ∷ l) = l
