@@ -1,2 +1,3 @@
 -- What both trees share. Definitions only.
 pub mod Points
+pub mod Pieces
