@@ -1,3 +1,4 @@
+pub mod Areas
 pub mod Collects
 pub mod Descents
 pub mod Deletes
