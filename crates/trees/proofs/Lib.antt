@@ -1,10 +1,12 @@
 pub mod Areas
+pub mod Checks
 pub mod Collects
 pub mod Descents
 pub mod Deletes
 pub mod Finds
 pub mod Heads
 pub mod Inserts
+pub mod Marks
 pub mod Seeks
 pub mod Tables
 pub mod Turns
