@@ -8,6 +8,7 @@ pub mod Heads
 pub mod Inserts
 pub mod Marks
 pub mod Seeks
+pub mod Soundness
 pub mod Tables
 pub mod Turns
 pub mod Walks

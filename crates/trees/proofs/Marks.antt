@@ -64,19 +64,26 @@ claims-mark m m' p h c =
     at : (q : ℕ) → q ≡ p → p < length m → getD m p 0 ≡ 0 → getD (set m p 1) q 0 ≡ getD m q 0 + is q p
     at q e l z = ap (λ (u : ℕ). getD (set m p 1) u 0) e ∙ getD-set-same m p 1 0 l ∙ omega (arith, is-eq q p e, ap (λ (u : ℕ). getD m u 0) e, z)
 
--- ---- all of them
+-- ---- all of them but 0
 pub record AllMet (m : List ℕ) (r : Bool) : Type 0 where
-  pub sure : r ≡ true → (p : ℕ) → p < length m → getD m p 0 ≢ 0
-  pub only : ((p : ℕ) → p < length m → getD m p 0 ≢ 0) → r ≡ true
+  pub sure : r ≡ true → (p : ℕ) → p ≢ 0 → p < length m → getD m p 0 ≢ 0
+  pub only : ((p : ℕ) → p ≢ 0 → p < length m → getD m p 0 ≢ 0) → r ≡ true
 
-pub met-end : (m : List ℕ) (i : ℕ) → ((p : ℕ) → p < i → getD m p 0 ≢ 0) → length m ≤ i → AllMet m true
-met-end m i h e = record { sure = λ t p l. h p (omega arith); only = λ f. refl }
+-- those below i
+abbrev pub MetTo : List ℕ → ℕ → Type 0
+MetTo m i = (p : ℕ) → p ≢ 0 → p < i → getD m p 0 ≢ 0
 
-pub met-not : (m : List ℕ) (i : ℕ) → i < length m → getD m i 0 ≡ 0 → AllMet m false
-met-not m i h e = record { sure = λ t. no-true t; only = λ f. absurd (f i h e) }
+pub met-start : (m : List ℕ) → MetTo m 1
+met-start m p z l = absurd (omega arith)
 
-pub met-more : (m : List ℕ) (i : ℕ) → ((p : ℕ) → p < i → getD m p 0 ≢ 0) → getD m i 0 ≢ 0 → (p : ℕ) → p < i + 1 → getD m p 0 ≢ 0
-met-more m i h e p l = by-eq p i (λ q. subst (λ (u : ℕ). getD m u 0 ≢ 0) (sym q) e) (λ q. h p (omega (arith, l, q)))
+pub met-end : (m : List ℕ) (i : ℕ) → MetTo m i → length m ≤ i → AllMet m true
+met-end m i h e = record { sure = λ t p z l. h p z (omega arith); only = λ f. refl }
+
+pub met-not : (m : List ℕ) (i : ℕ) → 1 ≤ i → i < length m → getD m i 0 ≡ 0 → AllMet m false
+met-not m i o h e = record { sure = λ t. no-true t; only = λ f. absurd (f i (λ z. absurd (omega arith)) h e) }
+
+pub met-more : (m : List ℕ) (i : ℕ) → MetTo m i → getD m i 0 ≢ 0 → MetTo m (i + 1)
+met-more m i h e p z l = by-eq p i (λ q. subst (λ (u : ℕ). getD m u 0 ≢ 0) (sym q) e) (λ q. h p z (omega (arith, l, q)))
 
 -- ---- a list that is walked: `next` says what follows, every number of it is as `ok` says, and 0 ends it
 module _ (next : ℕ → ℕ) (ok : ℕ → Type 0) where
