@@ -43,8 +43,7 @@ lower t m = cond (lt m t || ne t t) m t
 
 unfoldable pub halved : Bool → Float → Bound → Bound
 unfolding higher lower
-halved true m a = record { low = higher (a .low) m; top = a .top; edge = a .edge }
-halved false m a = record { low = a .low; top = lower (a .top) m; edge = a .edge }
+halved h m a = record { low = cond h (higher (a .low) m) (a .low); top = cond h (a .top) (lower (a .top) m); edge = a .edge }
 
 -- the bounds of the child with the number i
 unfoldable pub narrowed : List Side → List Bound → ℕ → List Bound
