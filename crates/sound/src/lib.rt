@@ -109,7 +109,11 @@ pub fn low_half(high: bool, mid: f64, low: f64) -> f64
     if !high {
         return low;
     }
-    if (low <= mid) | (mid != mid) { mid } else { low }
+    if (low <= mid) | (mid != mid) {
+        mid
+    } else {
+        low
+    }
 }
 
 // The top bound of a half: on the low side the midplane, where it is lower. A top that is no number bounds nothing.

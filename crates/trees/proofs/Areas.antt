@@ -19,7 +19,7 @@ use lib.Ieee.Compare.{differs-from-itself}
 use Rattle.floats.proofs.Order.{nan-le, le-nan, le-transitive, le-total, le-nums, lt→le, lt-is, num-of, num?, le-eq, eq→le, eq-symmetric}
 use Rattle.floats.proofs.Bounds.{pow-fits}
 use Rattle.floats.proofs.Patterns.{same-no-nan, zero-bits}
-use Rattle.model.specs.Boxes.{Side, far, onEach, holds, inside, mid, turn, route, bounded}
+use Rattle.model.specs.Boxes.{Side, far, onEach, holds, inside, mid, turn, route, bounded, acceptable}
 use Rattle.model.specs.Soundness.{All}
 use Rattle.model.proofs.Inside.{F64, F64Side, far-held, mid-held}
 
@@ -305,3 +305,23 @@ bounded-is v f = ap₂ (λ (a b : Bool). a && b) (eq-le (neg limit) (fin true 1 
 
 pub side-is : (c e : Float) → F64 c → F64 e → (le (neg limit) c && le c limit) && ((le (neg limit) e && le e limit) && le (ofBits binary64 0) e) ≡ bounded c && (bounded e && le plusZero e)
 side-is c e fc fe = ap₂ (λ (a b : Bool). a && b) (bounded-is c fc) (ap₂ (λ (a b : Bool). a && b) (bounded-is e fe) (ap (λ (z : Float). le z e) zero-bits))
+
+-- a boundary, one axis at a time
+pub accept-more : (s : Side) (b : List Side) (x y : Bool) → x ≡ bounded (s .corner) && (bounded (s .extent) && le plusZero (s .extent)) → y ≡ acceptable b → x && y ≡ acceptable (s ∷ b)
+unfolding acceptable
+accept-more s b x y ex ey = ap₂ (λ (u v : Bool). u && v) ex ey ∙ inner (bounded (s .corner)) (bounded (s .extent)) (le plusZero (s .extent)) (acceptable b)
+  where
+    inner : (p q r t : Bool) → (p && (q && r)) && t ≡ p && (q && (r && t))
+    inner true true r t = refl
+    inner true false r t = refl
+    inner false q r t = refl
+
+pub accept-last : (s : Side) (x : Bool) → x ≡ bounded (s .corner) && (bounded (s .extent) && le plusZero (s .extent)) → x ≡ acceptable (s ∷ [])
+unfolding acceptable
+accept-last s x ex = ex ∙ plain (bounded (s .corner)) (bounded (s .extent)) (le plusZero (s .extent))
+  where
+    plain : (p q r : Bool) → p && (q && r) ≡ p && (q && (r && true))
+    plain true true true = refl
+    plain true true false = refl
+    plain true false r = refl
+    plain false q r = refl
