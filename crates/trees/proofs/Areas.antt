@@ -306,6 +306,73 @@ bounded-is v f = ap₂ (λ (a b : Bool). a && b) (eq-le (neg limit) (fin true 1 
 pub side-is : (c e : Float) → F64 c → F64 e → (le (neg limit) c && le c limit) && ((le (neg limit) e && le e limit) && le (ofBits binary64 0) e) ≡ bounded c && (bounded e && le plusZero e)
 side-is c e fc fe = ap₂ (λ (a b : Bool). a && b) (bounded-is c fc) (ap₂ (λ (a b : Bool). a && b) (bounded-is e fe) (ap (λ (z : Float). le z e) zero-bits))
 
+-- ---- the bounds as three places: the low ends, the top ones, and the boundary's edges
+unfoldable pub bounding : List Float → List Float → List Float → List Bound
+bounding [] ts es = []
+bounding (l ∷ ls) [] es = []
+bounding (l ∷ ls) (t ∷ ts) [] = []
+bounding (l ∷ ls) (t ∷ ts) (e ∷ es) = record { low = l; top = t; edge = e } ∷ bounding ls ts es
+
+-- those of the child with the number i
+unfoldable pub lows : List Side → List Float → ℕ → List Float
+unfolding higher mid
+lows [] ls i = []
+lows (s ∷ b) [] i = []
+lows (s ∷ b) (l ∷ ls) i = cond (eqb (i % 2) 1) (higher l (mid s)) l ∷ lows b ls (i / 2)
+
+unfoldable pub tops : List Side → List Float → ℕ → List Float
+unfolding lower mid
+tops [] ts i = []
+tops (s ∷ b) [] i = []
+tops (s ∷ b) (t ∷ ts) i = cond (eqb (i % 2) 1) t (lower t (mid s)) ∷ tops b ts (i / 2)
+
+pub narrowed-bounding : (b : List Side) (ls ts es : List Float) (i : ℕ) → bounding (lows b ls i) (tops b ts i) es ≡ narrowed b (bounding ls ts es) i
+unfolding narrowed bounding lows tops halved
+narrowed-bounding [] ls ts es i = refl
+narrowed-bounding (s ∷ b) [] ts es i = refl
+narrowed-bounding (s ∷ b) (l ∷ ls) [] es i = refl
+narrowed-bounding (s ∷ b) (l ∷ ls) (t ∷ ts) [] i = refl
+narrowed-bounding (s ∷ b) (l ∷ ls) (t ∷ ts) (e ∷ es) i = ap (λ (a : List Bound). halved (eqb (i % 2) 1) (mid s) (record { low = l; top = t; edge = e }) ∷ a) (narrowed-bounding b ls ts es (i / 2))
+
+-- one axis more
+pub lows-more : (s : Side) (b : List Side) (l : Float) (ls : List Float) (i j : ℕ) (y m : Float) (r : List Float) (h : Bool) → h ≡ eqb (i % 2) 1 → m ≡ mid s → y ≡ cond h (higher l m) l → j ≡ i / 2 → r ≡ lows b ls j → y ∷ r ≡ lows (s ∷ b) (l ∷ ls) i
+unfolding lows
+lows-more s b l ls i j y m r h eh em ey ej er = ap₂ {C = List Float} (λ (u : Float) (v : List Float). u ∷ v) (ey ∙ ap₂ (λ (u : Bool) (v : Float). cond u (higher l v) l) eh em) (er ∙ ap (lows b ls) ej)
+
+pub tops-more : (s : Side) (b : List Side) (t : Float) (ts : List Float) (i j : ℕ) (y m : Float) (r : List Float) (h : Bool) → h ≡ eqb (i % 2) 1 → m ≡ mid s → y ≡ cond h t (lower t m) → j ≡ i / 2 → r ≡ tops b ts j → y ∷ r ≡ tops (s ∷ b) (t ∷ ts) i
+unfolding tops
+tops-more s b t ts i j y m r h eh em ey ej er = ap₂ {C = List Float} (λ (u : Float) (v : List Float). u ∷ v) (ey ∙ ap₂ (λ (u : Bool) (v : Float). cond u t (lower t v)) eh em) (er ∙ ap (tops b ts) ej)
+
+pub lows-none : (ls : List Float) (i : ℕ) → [] ≡ lows [] ls i
+unfolding lows
+lows-none ls i = refl
+
+pub tops-none : (ts : List Float) (i : ℕ) → [] ≡ tops [] ts i
+unfolding tops
+tops-none ts i = refl
+
+pub whole-more : (s : Side) (b : List Side) (l t e : Float) (ls ts es : List Float) → l ≡ s .corner → t ≡ nan → e ≡ far s → bounding ls ts es ≡ whole b → bounding (l ∷ ls) (t ∷ ts) (e ∷ es) ≡ whole (s ∷ b)
+unfolding whole bounding
+whole-more s b l t e ls ts es el et ee w =
+    ap (λ (u : Float). record { low = u; top = t; edge = e } ∷ bounding ls ts es) el ∙ ap (λ (u : Float). record { low = s .corner; top = u; edge = e } ∷ bounding ls ts es) et
+    ∙ ap (λ (u : Float). record { low = s .corner; top = nan; edge = u } ∷ bounding ls ts es) ee ∙ ap (λ (a : List Bound). record { low = s .corner; top = nan; edge = far s } ∷ a) w
+
+pub whole-none : bounding [] [] [] ≡ whole []
+unfolding whole bounding
+whole-none = refl
+
+pub lies-more : (l t e v : Float) (ls ts es vs : List Float) (x y : Bool) → x ≡ (le l v && le v e) && not (le t v) → y ≡ lies (bounding ls ts es) vs → x && y ≡ lies (bounding (l ∷ ls) (t ∷ ts) (e ∷ es)) (v ∷ vs)
+unfolding lies bounding onEach keeps
+lies-more l t e v ls ts es vs x y ex ey = ap₂ (λ (a b : Bool). a && b) ex ey
+
+pub lies-last : (l t e v : Float) (x : Bool) → x ≡ (le l v && le v e) && not (le t v) → x ≡ lies (bounding (l ∷ []) (t ∷ []) (e ∷ [])) (v ∷ [])
+unfolding lies bounding onEach keeps
+lies-last l t e v x ex = ex ∙ plain ((le l v && le v e) && not (le t v))
+  where
+    plain : (u : Bool) → u ≡ u && true
+    plain true = refl
+    plain false = refl
+
 -- a boundary, one axis at a time
 pub accept-more : (s : Side) (b : List Side) (x y : Bool) → x ≡ bounded (s .corner) && (bounded (s .extent) && le plusZero (s .extent)) → y ≡ acceptable b → x && y ≡ acceptable (s ∷ b)
 unfolding acceptable

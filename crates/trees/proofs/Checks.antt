@@ -2,14 +2,14 @@
 -- no leaf too full, no divided node too empty, and every point within its bounds. Over any number of ways. Assumes nothing.
 use mathlib.Core.Path.{_≡_, refl, ap, ap₂, sym, _∙_, subst}
 use mathlib.Core.Logic.{_≢_, _⊎_, inl, inr}
-use mathlib.Core.Bool.{Bool, true, false, _&&_}
+use mathlib.Core.Bool.{Bool, true, false, not, _&&_}
 use mathlib.Core.List.{List, [], _∷_}
 use Prim.Native.Nat.{ℕ, zero, suc, _+_, _-_, _*_, _<_, _≤_}
 use native.Mathlib.Omega.{arith}
 use native.Mathlib.Numerals.{add-one, sub-one}
 use lib.Dec.{T, eqb}
-use borrow.Author.Tests.{eq-eqb, eqb-true}
-use lib.ListN.{length, getD}
+use borrow.Author.Tests.{not-true, not-false, eq-eqb, eqb-true}
+use lib.ListN.{length, getD, length-set}
 use Rattle.model.specs.Boxes.{Side, part}
 use Rattle.model.specs.Trees.{Point}
 use Rattle.model.specs.Soundness.{All, Each}
@@ -23,7 +23,7 @@ use Rattle.pool.proofs.Read.{rep-unique}
 use Rattle.pool.proofs.Trees.{groups-flat, places-flat}
 use Rattle.trees.proofs.Areas.{Bound, lies, narrowed}
 use Rattle.trees.proofs.Heads.{both}
-use Rattle.trees.proofs.Marks.{Low, Marked, Fresh, marked-none, marked-then, marked-as, Claims, claims-mark, Linked, Listed, Walks}
+use Rattle.trees.proofs.Marks.{Low, Marked, Fresh, marked-none, marked-then, marked-as, Claims, claims-mark, Linked, Listed, Walks, walks-end, walks-over, walks-bad, walks-met, walks-step}
 
 -- a count in words is how many places the tree has
 pub rep-size : (d ways : ℕ) (n x : List ℕ) (i : ℕ) (t : PTree d) → Rep d ways n x i t → getD n (4 * i + 3) 0 ≡ size d t
@@ -47,9 +47,62 @@ pub counts-end : (ways : ℕ) (n : List ℕ) (k c : ℕ) → ways ≤ c → coun
 unfolding counts
 counts-end ways n k c h = ap (counts ways n k c) {x = ways - c} {y = 0} (omega arith)
 
+-- ---- one list
+abbrev pub after : List ℕ → ℕ → ℕ
+after x p = getD x p 0
+
+-- a place within the links whose point lies within the bounds
+abbrev pub listed : (ℕ → Point) → List ℕ → List Bound → ℕ → Type 0
+listed pt x a p = (p < length x) × T (lies a (pt p .at))
+
+-- no step is left, and the last place is the one that the node names
+abbrev pub ends : ℕ → ℕ → ℕ → Bool
+ends last rest b = eqb rest 0 && eqb b last
+
+module _ (pt : ℕ → Point) (x : List ℕ) (a : List Bound) (h last v : ℕ) where
+  unfoldable pub ListChecks : (m m' : List ℕ) → Bool → Type 0
+  ListChecks m m' r = length m ≡ length x → Walks (after x) (listed pt x a) (ends last) m h 0 v m' r
+
+  listed-walk : (m m' : List ℕ) (r : Bool) → ListChecks m m' r → length m ≡ length x → Walks (after x) (listed pt x a) (ends last) m h 0 v m' r
+  unfolding ListChecks
+  listed-walk m m' r w e = w e
+
+  -- the loop: what is left leads to the whole
+  pub record Listing (m now : List ℕ) (q b left : ℕ) : Type 0 where
+    pub same : length now ≡ length m
+    pub on : length m ≡ length x → (m' : List ℕ) (r : Bool) → Walks (after x) (listed pt x a) (ends last) now q b left m' r → Walks (after x) (listed pt x a) (ends last) m h 0 v m' r
+
+  pub listing-start : (m : List ℕ) → Listing m m h 0 v
+  listing-start m = record { same = refl; on = λ e m' r w. w }
+
+  module _ (m now : List ℕ) (q b left : ℕ) (g : Listing m now q b left) where
+    pub listing-over : (m' : List ℕ) → q ≢ 0 → left ≡ 0 → ListChecks m m' false
+    unfolding ListChecks
+    listing-over m' z e s = g .on s m' false (walks-over _ _ _ now q b left m' z e)
+
+    pub listing-met : (now' m' : List ℕ) (t : Bool) → q ≢ 0 → Claims now now' q t → not t ≡ true → ListChecks m m' false
+    unfolding ListChecks
+    listing-met now' m' t z c e s = g .on s m' false (walks-met _ _ _ now q b left now' m' z (λ o. omega (arith, o .0, s, g .same)) (subst (λ (u : Bool). Claims now now' q u) (not-true t e) c))
+
+    pub listing-out : (m' : List ℕ) (t : Bool) → q ≢ 0 → t ≡ lies a (pt q .at) → not t ≡ true → ListChecks m m' false
+    unfolding ListChecks
+    listing-out m' t z et e s = g .on s m' false (walks-bad _ _ _ now q b left m' z (λ o. subst T (sym et ∙ not-true t e) (o .1)))
+
+    pub listing-step : (now' : List ℕ) (q' : ℕ) (t y : Bool) → q ≢ 0 → left ≢ 0 → Claims now now' q t → not t ≡ false → y ≡ lies a (pt q .at) → not y ≡ false → q' ≡ getD x q 0 → Listing m now' q' q (left - 1)
+    listing-step now' q' t y z nl c et ey ny en =
+        let c1 : Claims now now' q true = subst (λ (u : Bool). Claims now now' q u) (not-false t et) c in
+        let s = c1 .sure refl in
+        record {
+          same = ap length (s .2) ∙ length-set now q 1 ∙ g .same;
+          on = λ e m' r w. g .on e m' r (walks-step _ _ _ now q b left now' q' (left - 1) m' r z (omega (arith, s .0, g .same, e), subst T (sym (sym ey ∙ not-false y ny)) tt) c1 en (omega arith) w);
+        }
+
+    pub listing-end : q ≡ 0 → ListChecks m now (eqb left 0 && eqb b last)
+    unfolding ListChecks
+    listing-end z e = g .on e now (eqb left 0 && eqb b last) (walks-end _ _ _ now q b left (eqb left 0 && eqb b last) z refl)
+
 module _ (ways cap : ℕ) (pt : ℕ → Point) (n x : List ℕ) where
   -- ---- what is asked of a tree
-  -- a place within the links whose point lies within the bounds
   abbrev pub Tested : List Bound → ℕ → Type 0
   Tested a p = T (lies a (pt p .at))
 
@@ -94,23 +147,13 @@ module _ (ways cap : ℕ) (pt : ℕ → Point) (n x : List ℕ) where
   no-true e = absurd (subst T (sym e) tt)
 
   -- ---- an undivided node
-  abbrev pub after : ℕ → ℕ
-  after p = getD x p 0
-
-  abbrev pub listed : List Bound → ℕ → Type 0
-  listed a p = (p < length x) × Tested a p
-
-  -- no step is left, and the last place is the one that the node names
-  abbrev pub ends : ℕ → ℕ → ℕ → Bool
-  ends last rest b = eqb rest 0 && eqb b last
-
-  linked-chain : (a : List Bound) (h : ℕ) (l : List ℕ) → Linked after (listed a) h l → Chain x h l × All (Tested a) l
+  linked-chain : (a : List Bound) (h : ℕ) (l : List ℕ) → Linked (after x) (listed pt x a) h l → Chain x h l × All (Tested a) l
   linked-chain a h [] k = (k, tt)
-  linked-chain a h (p ∷ l) k = let q = linked-chain a (after p) l (k .3) in ((k .0, k .1, k .2 .0, q .0), (k .2 .1, q .1))
+  linked-chain a h (p ∷ l) k = let q = linked-chain a (after x p) l (k .3) in ((k .0, k .1, k .2 .0, q .0), (k .2 .1, q .1))
 
-  chain-linked : (a : List Bound) (h : ℕ) (l : List ℕ) → Chain x h l → All (Tested a) l → Linked after (listed a) h l
+  chain-linked : (a : List Bound) (h : ℕ) (l : List ℕ) → Chain x h l → All (Tested a) l → Linked (after x) (listed pt x a) h l
   chain-linked a h [] k t = k
-  chain-linked a h (p ∷ l) k t = (k .0, k .1, (k .2, t .0), chain-linked a (after p) l (k .3) (t .1))
+  chain-linked a h (p ∷ l) k t = (k .0, k .1, (k .2, t .0), chain-linked a (after x p) l (k .3) (t .1))
 
   proper-flat : (d : ℕ) (b : List Side) (a : List Bound) (l : List ℕ) → ((d ≡ 0) ⊎ (length l ≤ cap)) → All (Tested a) l → Proper d b a (flat d l)
   proper-flat zero b a l h t = t
@@ -118,17 +161,20 @@ module _ (ways cap : ℕ) (pt : ℕ → Point) (n x : List ℕ) where
   proper-flat (suc d) b a l (inr h) t = (h, t)
 
   pub check-list : (d : ℕ) (b : List Side) (a : List Bound) (i : ℕ) (m u m' : List ℕ) (r : Bool) (g v h last : ℕ) → g ≡ getD n (4 * i) 0 → v ≡ getD n (4 * i + 3) 0 → g ≡ 0 → ((d ≡ 0) ⊎ (v ≤ cap)) → h ≡ getD n (4 * i + 1) 0 → last ≡ getD n (4 * i + 2) 0
-      → Walks after (listed a) (ends last) m h 0 v m' r → Checks d b a i m u m' u r
+      → ListChecks pt x a h last v m m' r → Checks d b a i m u m' u r
   unfolding Checks
   check-list d b a i m u m' r g v h last eg ev z few eh el w sz room = record {
-    sure = λ t. found (w .sure t (sz .low-m));
+    sure = λ t. found (walk .sure t (sz .low-m));
     only = only d few;
   }
     where
+      walk : Walks (after x) (listed pt x a) (ends last) m h 0 v m' r
+      walk = listed-walk pt x a h last v m m' r w (sz .places)
+
       long : (l : List ℕ) → v ≡ length l → ((d ≡ 0) ⊎ (length l ≤ cap))
       long l e = elim few [ inl q ↦ inl q | inr q ↦ inr (subst (λ (k : ℕ). k ≤ cap) e q) ]
 
-      found : Listed after (listed a) (ends last) m h 0 v m' → Found d b a i m u m' u
+      found : Listed (after x) (listed pt x a) (ends last) m h 0 v m' → Found d b a i m u m' u
       found q =
           let e = both (eqb (q .rest) 0) (eqb (lastOr 0 (q .list)) last) (q .ends) in
           let s : v ≡ length (q .list) = omega (arith, q .steps, eqb-true (q .rest) 0 (e .0)) in
@@ -142,7 +188,7 @@ module _ (ways cap : ℕ) (pt : ℕ → Point) (n x : List ℕ) where
           }
 
       walked : (l : List ℕ) → RepLeaf n x i l → All (Tested a) l → Fresh m (λ p. occ p l) → r ≡ true
-      walked l q t f = w .only (sz .low-m) l 0 (chain-linked a h l (subst (λ (k : ℕ). Chain x k l) (sym eh) (q .2)) t) (omega (arith, ev, q .4))
+      walked l q t f = walk .only (sz .low-m) l 0 (chain-linked a h l (subst (λ (k : ℕ). Chain x k l) (sym eh) (q .2)) t) (omega (arith, ev, q .4))
           (eq-eqb (lastOr 0 l) last (sym (el ∙ q .3))) f
 
       only : (d : ℕ) → ((d ≡ 0) ⊎ (v ≤ cap)) → (t : PTree d) → Rep d ways n x i t → Proper d b a t → Fresh m (λ p. placesAt d p t) → Fresh u (λ g. groupsAt d g t) → r ≡ true

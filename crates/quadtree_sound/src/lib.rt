@@ -1,0 +1,108 @@
+// The soundness test: whether pieces of any bytes hold a sound quadtree. It marks every place and every group that it meets and stops at the first that
+// comes twice or lies outside, so that it ends, and visits no more than there are.
+ghost use mathlib.Core.Path.{_≡_};
+ghost use lib.Ieee.{nan};
+ghost use Rattle.words.specs.Words.{words};
+ghost use Rattle.model.specs.Calls.{quadtree};
+ghost use Rattle.geometry.specs.Sides.{place2, sides2};
+ghost use Rattle.trees.specs.Points.{pointAt};
+ghost use Rattle.trees.specs.Pieces.{pieces, Sane, Decides};
+ghost use Rattle.trees.proofs.Areas.{bounding, lows, tops, lies};
+ghost use Rattle.trees.proofs.Checks.{Checks, ListChecks};
+use geometry::axis::midplane;
+use geometry::plane::Point2D;
+use geometry::plane::Rectangle;
+use pool::child;
+use pool::count;
+use pool::first;
+use pool::group;
+use pool::last;
+use pool::next;
+use quadtree::head::accepts;
+use quadtree::head::boundary;
+use quadtree::head::capacity;
+use quadtree::head::fits;
+use quadtree::place::point_at;
+use sound::all_met;
+use sound::children_count;
+use sound::claim;
+use sound::free_groups;
+use sound::free_places;
+use sound::low_half;
+use sound::top_half;
+
+const NAN: u64 = 0x7ff8_0000_0000_0000;
+
+// What bounds nothing from above.
+fn no_top() -> Point2D
+    ensures { λ r. ⌜ (r .x ≡ nan) × (r .y ≡ nan) ⌝ }
+{
+    let none = floats::from_bits(NAN);
+    Point2D { x: none, y: none }
+}
+
+// The low ends of child c of a node with this box.
+fn low_part(bounds: Rectangle, low: Point2D, c: u8) -> Point2D
+    ensures { λ r. ⌜ place2 r ≡ lows (sides2 bounds) (place2 low) c ⌝ }
+{
+    let mx = midplane(bounds.x, bounds.width);
+    let my = midplane(bounds.y, bounds.height);
+    let x = low_half(c % 2 == 1, mx, low.x);
+    let y = low_half(c / 2 % 2 == 1, my, low.y);
+    Point2D { x, y }
+}
+
+// The top ends of child c of a node with this box.
+fn top_part(bounds: Rectangle, top: Point2D, c: u8) -> Point2D
+    ensures { λ r. ⌜ place2 r ≡ tops (sides2 bounds) (place2 top) c ⌝ }
+{
+    let mx = midplane(bounds.x, bounds.width);
+    let my = midplane(bounds.y, bounds.height);
+    let x = top_half(c % 2 == 1, mx, top.x);
+    let y = top_half(c / 2 % 2 == 1, my, top.y);
+    Point2D { x, y }
+}
+
+// Whether the point in place p is at least low, at most the edge, and not at or above top.
+fn lies(points: &[u8], p: u32, low: Point2D, top: Point2D, edge: Point2D) -> bool
+    ensures { λ r. ⌜ r ≡ lies (bounding (place2 low) (place2 top) (place2 edge)) (pointAt 2 (words (now (points .entry))) p .at) ⌝ }
+{
+    let at = point_at(points, p);
+    let x = (low.x <= at.x) & (at.x <= edge.x) & !(top.x <= at.x);
+    let y = (low.y <= at.y) & (at.y <= edge.y) & !(top.y <= at.y);
+    x & y
+}
+
+// Whether a node's list has so many places, none met before, each with a point in the area, and ends with the place that the node names.
+fn check_list(
+    links: &[u8],
+    points: &[u8],
+    head: u32,
+    tail: u32,
+    n: u32,
+    low: Point2D,
+    top: Point2D,
+    edge: Point2D,
+    homes: &mut [u8],
+) -> bool
+    ensures { λ r. ⌜ ListChecks (pointAt 2 (words (now (points .entry)))) (words (now (links .entry))) (bounding (place2 low) (place2 top) (place2 edge)) head tail n (now (homes .entry)) (now (homes .exit)) r ⌝ }
+{
+    let mut left = n;
+    let mut p = head;
+    let mut b: u32 = 0;
+    while p != 0 {
+        if left == 0 {
+            return false;
+        }
+        if !claim(homes, p) {
+            return false;
+        }
+        if !lies(points, p, low, top, edge) {
+            return false;
+        }
+        b = p;
+        p = next(links, p);
+        left -= 1;
+    }
+    (left == 0) & (b == tail)
+}
