@@ -7,8 +7,8 @@ use mathlib.Core.List.{List, [], _∷_}
 use Prim.Native.Nat.{ℕ, zero, suc, _+_, _-_, _*_, _<_, _≤_}
 use native.Mathlib.Omega.{arith}
 use native.Mathlib.Numerals.{add-one, sub-one}
-use lib.Dec.{T, eqb}
-use borrow.Author.Tests.{not-true, not-false, eq-eqb, eqb-true}
+use lib.Dec.{T, eqb, ltb}
+use borrow.Author.Tests.{not-true, not-false, eq-eqb, eqb-true, ltb-true, ltb-false}
 use lib.ListN.{length, getD, length-set}
 use Rattle.model.specs.Boxes.{Side, part}
 use Rattle.model.specs.Trees.{Point}
@@ -160,7 +160,7 @@ module _ (ways cap : ℕ) (pt : ℕ → Point) (n x : List ℕ) where
   proper-flat (suc d) b a l (inl e) t = absurd (omega arith)
   proper-flat (suc d) b a l (inr h) t = (h, t)
 
-  pub check-list : (d : ℕ) (b : List Side) (a : List Bound) (i : ℕ) (m u m' : List ℕ) (r : Bool) (g v h last : ℕ) → g ≡ getD n (4 * i) 0 → v ≡ getD n (4 * i + 3) 0 → g ≡ 0 → ((d ≡ 0) ⊎ (v ≤ cap)) → h ≡ getD n (4 * i + 1) 0 → last ≡ getD n (4 * i + 2) 0
+  check-list : (d : ℕ) (b : List Side) (a : List Bound) (i : ℕ) (m u m' : List ℕ) (r : Bool) (g v h last : ℕ) → g ≡ getD n (4 * i) 0 → v ≡ getD n (4 * i + 3) 0 → g ≡ 0 → ((d ≡ 0) ⊎ (v ≤ cap)) → h ≡ getD n (4 * i + 1) 0 → last ≡ getD n (4 * i + 2) 0
       → ListChecks pt x a h last v m m' r → Checks d b a i m u m' u r
   unfolding Checks
   check-list d b a i m u m' r g v h last eg ev z few eh el w sz room = record {
@@ -197,7 +197,7 @@ module _ (ways cap : ℕ) (pt : ℕ → Point) (n x : List ℕ) where
       only (suc d) few (branch j ts) q p f k = absurd (q .2 (sym (q .1) ∙ sym eg ∙ z))
 
   -- ---- no tree
-  pub check-many : (d : ℕ) (b : List Side) (a : List Bound) (i : ℕ) (m u m' u' : List ℕ) (g v : ℕ) → g ≡ getD n (4 * i) 0 → v ≡ getD n (4 * i + 3) 0 → g ≡ 0 → d ≢ 0 → cap < v → Checks d b a i m u m' u' false
+  check-many : (d : ℕ) (b : List Side) (a : List Bound) (i : ℕ) (m u m' u' : List ℕ) (g v : ℕ) → g ≡ getD n (4 * i) 0 → v ≡ getD n (4 * i + 3) 0 → g ≡ 0 → d ≢ 0 → cap < v → Checks d b a i m u m' u' false
   unfolding Checks
   check-many d b a i m u m' u' g v eg ev z nd h sz room = record { sure = λ t. no-true t; only = only d nd }
     where
@@ -341,7 +341,7 @@ module _ (ways cap : ℕ) (pt : ℕ → Point) (n x : List ℕ) where
                 go ts (y .2) (p .1) (λ i. omega (arith, f i, q .places .sums i, ap (placesAt d i) e)) (λ i. omega (arith, g i, q .groups .sums i, ap (groupsAt d i) e)) t
 
   -- ---- the divided node
-  pub check-kids : (d : ℕ) (b : List Side) (a : List Bound) (i : ℕ) (m u u1 m' u' : List ℕ) (g v : ℕ) (fin r : Bool) → 0 < ways → g ≡ getD n (4 * i) 0 → v ≡ getD n (4 * i + 3) 0 → g ≢ 0 → d ≢ 0 → cap < v → Claims u u1 g true
+  check-kids : (d : ℕ) (b : List Side) (a : List Bound) (i : ℕ) (m u u1 m' u' : List ℕ) (g v : ℕ) (fin r : Bool) → 0 < ways → g ≡ getD n (4 * i) 0 → v ≡ getD n (4 * i + 3) 0 → g ≢ 0 → d ≢ 0 → cap < v → Claims u u1 g true
       → fin ≡ eqb (counts ways n g 0 ways) v → Rows (d - 1) b a g 0 fin m u1 m' u' r → Checks d b a i m u m' u' r
   unfolding Checks Rows
   check-kids zero b a i m u u1 m' u' g v fin r lw eg ev nz nd h c ef w sz room = absurd (nd refl)
@@ -373,3 +373,51 @@ module _ (ways cap : ℕ) (pt : ℕ → Point) (n x : List ℕ) where
               let e : g ≡ j = eg ∙ q .1 in
               let row : Row d g 0 ts = all-row d g ts (q .4) (λ y l. subst (λ (o : ℕ). Rep d ways n x (kid ways o y) (getD ts y (none d))) (sym e) (q .5 y l)) in
               z .only ts row (p .1) f (λ o. omega (arith, k o, mk .sums o, ap (is o) e)) (ef ∙ eq-eqb (counts ways n g 0 ways) v (ap (counts ways n g 0) (sym (q .4)) ∙ row-counts d g 0 ts row ∙ sym (q .3) ∙ sym ev))
+
+  -- ---- the loop over the children: what is left leads to the whole
+  pub record Descending (d : ℕ) (b : List Side) (a : List Bound) (i : ℕ) (m u : List ℕ) (g : ℕ) (fin : Bool) (c : ℕ) (nm nu : List ℕ) : Type 0 where
+    pub same-m : length nm ≡ length m
+    pub same-u : length nu ≡ length u
+    pub most : c ≤ ways
+    pub on : (m' u' : List ℕ) (r : Bool) → Rows (d - 1) b a g c fin nm nu m' u' r → Checks d b a i m u m' u' r
+
+  pub descending-start : (d : ℕ) (b : List Side) (a : List Bound) (i : ℕ) (m u u1 : List ℕ) (g v : ℕ) (t : Bool) → 0 < ways → g ≡ getD n (4 * i) 0 → v ≡ getD n (4 * i + 3) 0 → g ≢ 0 → d ≢ 0 → cap < v → Claims u u1 g t → not t ≡ false
+      → Descending d b a i m u g (eqb (counts ways n g 0 ways) v) 0 m u1
+  descending-start d b a i m u u1 g v t lw eg ev nz nd h c e =
+      let c1 : Claims u u1 g true = subst (λ (k : Bool). Claims u u1 g k) (not-false t e) c in
+      record {
+        same-m = refl;
+        same-u = ap length (c1 .sure refl .2) ∙ length-set u g 1;
+        most = omega arith;
+        on = λ m' u' r w. check-kids d b a i m u u1 m' u' g v (eqb (counts ways n g 0 ways) v) r lw eg ev nz nd h c1 refl w;
+      }
+
+  module _ (d : ℕ) (b : List Side) (a : List Bound) (i : ℕ) (m u : List ℕ) (g : ℕ) (fin : Bool) (c : ℕ) (nm nu : List ℕ) (w : Descending d b a i m u g fin c nm nu) where
+    pub descending-step : (j : ℕ) (b' : List Side) (a' : List Bound) (nm' nu' : List ℕ) (t : Bool) → c < ways → j ≡ kid ways g c → b' ≡ part b c → a' ≡ narrowed b a c → length nm' ≡ length nm → length nu' ≡ length nu → Checks (d - 1) b' a' j nm nu nm' nu' t → not t ≡ false
+        → Descending d b a i m u g fin (c + 1) nm' nu'
+    descending-step j b' a' nm' nu' t lc ej eb ea em eu k e = record {
+      same-m = em ∙ w .same-m;
+      same-u = eu ∙ w .same-u;
+      most = omega (arith, lc);
+      on = λ m' u' r v. w .on m' u' r (rows-step (d - 1) b a g c j (c + 1) fin b' a' nm nu nm' nu' m' u' r lc ej eb ea (add-one c) (subst (λ (y : Bool). Checks (d - 1) b' a' j nm nu nm' nu' y) (not-false t e) k) v);
+    }
+
+    pub descending-not : (j : ℕ) (b' : List Side) (a' : List Bound) (nm' nu' m' u' : List ℕ) (t : Bool) → c < ways → j ≡ kid ways g c → b' ≡ part b c → a' ≡ narrowed b a c → Checks (d - 1) b' a' j nm nu nm' nu' t → not t ≡ true → Checks d b a i m u m' u' false
+    descending-not j b' a' nm' nu' m' u' t lc ej eb ea k e = w .on m' u' false (rows-not (d - 1) b a g c j fin b' a' nm nu nm' nu' m' u' lc ej eb ea (subst (λ (y : Bool). Checks (d - 1) b' a' j nm nu nm' nu' y) (not-true t e) k))
+
+    pub descending-end : (r : Bool) → ways ≤ c → r ≡ fin → Checks d b a i m u nm nu r
+    descending-end r h e = subst (λ (y : Bool). Checks d b a i m u nm nu y) (sym e) (w .on nm nu fin (rows-end (d - 1) b a g c nm nu fin (omega (arith, h, w .most))))
+
+  -- ---- as the code tests an undivided node
+  pub check-over : (d : ℕ) (b : List Side) (a : List Bound) (i : ℕ) (m u m' u' : List ℕ) (g v : ℕ) → g ≡ getD n (4 * i) 0 → v ≡ getD n (4 * i + 3) 0 → g ≡ 0 → ltb 0 d && ltb cap v ≡ true → Checks d b a i m u m' u' false
+  check-over d b a i m u m' u' g v eg ev z t =
+      let e = both (ltb 0 d) (ltb cap v) t in
+      check-many d b a i m u m' u' g v eg ev z (λ k. absurd (omega (arith, k, ltb-true 0 d (e .0)))) (ltb-true cap v (e .1))
+
+  pub check-places : (d : ℕ) (b : List Side) (a : List Bound) (i : ℕ) (m u m' : List ℕ) (r : Bool) (g v h last : ℕ) → g ≡ getD n (4 * i) 0 → v ≡ getD n (4 * i + 3) 0 → g ≡ 0 → ltb 0 d && ltb cap v ≡ false → h ≡ getD n (4 * i + 1) 0 → last ≡ getD n (4 * i + 2) 0
+      → ListChecks pt x a h last v m m' r → Checks d b a i m u m' u r
+  check-places d b a i m u m' r g v h last eg ev z t eh el w = check-list d b a i m u m' r g v h last eg ev z (few (ltb 0 d) (ltb cap v) t (ltb-false 0 d) (ltb-false cap v)) eh el w
+    where
+      few : (s t : Bool) → s && t ≡ false → (s ≡ false → d ≤ 0) → (t ≡ false → v ≤ cap) → ((d ≡ 0) ⊎ (v ≤ cap))
+      few true t e f g = inr (g e)
+      few false t e f g = inl (omega (arith, f refl))

@@ -1,14 +1,14 @@
 -- The soundness test of whole pieces says yes exactly when they hold a sound tree. Over both trees. Assumes nothing.
 use mathlib.Core.Path.{_≡_, refl, ap, ap₂, sym, _∙_, subst}
 use mathlib.Core.Logic.{_≢_}
-use mathlib.Core.Bool.{Bool, true, false, _&&_}
+use mathlib.Core.Bool.{Bool, true, false, not, _&&_}
 use mathlib.Core.List.{List, [], _∷_, _++_, map, flatten, zipWith}
 use Prim.Native.Nat.{ℕ, zero, suc, _+_, _-_, _*_, _/_, _^_, _<_, _≤_}
 use native.Mathlib.Omega.{arith}
 use native.Mathlib.Nat.{mul-le-mul-left}
 use lib.Dec.{T, eqb}
-use borrow.Author.Tests.{eq-eqb, eqb-true}
-use lib.ListN.{length, getD, length-map}
+use borrow.Author.Tests.{not-true, not-false, eq-eqb, eqb-true}
+use lib.ListN.{length, getD, length-map, replicate, length-replicate}
 use lib.Ieee.{Float, binary64, ofBits}
 use lib.Ieee.Bits.{ofBits-fits}
 use Rattle.model.specs.Boxes.{Side, part, route, inside, acceptable}
@@ -36,7 +36,7 @@ use Rattle.trees.specs.Pieces.{Pieces, Fits, boundaryOf, capacityOf, pla
 use Rattle.trees.proofs.Areas.{Bound, F64Bound, lies, narrowed, whole, narrowed-lies, narrowed-held, narrowed-length, whole-lies, whole-held, whole-length}
 use Rattle.trees.proofs.Heads.{both}
 use Rattle.trees.proofs.Checks.{Tested, Proper, Found, Checked, Checks, Sized}
-use Rattle.trees.proofs.Marks.{Low, Marked, Fresh, Linked, Listed, Walks, AllMet, always}
+use Rattle.trees.proofs.Marks.{Low, Marked, Fresh, Linked, Listed, Walks, AllMet, always, Frees}
 
 -- ---- every point of a tree with place numbers
 module _ (P : ℕ → Type 0) where
@@ -240,6 +240,10 @@ all-or-none (suc d) w pt (branch k ts) f = (length-map ts (erase pt d) ∙ f .0,
     row (t ∷ ts) f go = (go t (f .0), row ts (f .1) go)
 
 -- ---- whole pieces
+-- marks of so many numbers, none of them met
+abbrev pub unmet : ℕ → List ℕ
+unmet m = replicate m 0
+
 module _ (k : Kind) (s : Pieces) (rows : ℕ) (er : k .most ≡ suc (ways k * rows)) (lw : 2 ≤ ways k) where
   abbrev n : List ℕ
   n = words (s .nodes)
@@ -465,30 +469,62 @@ module _ (k : Kind) (s : Pieces) (rows : ℕ) (er : k .most ≡ suc (ways k * ro
   pub sound-lengths : (r : Bool) → Decides r (Fits k s) → r ≡ false → Decides false (Sane k s)
   sound-lengths r d e = not-sane (λ q. yes-no (d .only (q .fits)) e)
 
-  pub sound-boundary : acceptable bounds ≡ false → Decides false (Sane k s)
-  sound-boundary e = not-sane (λ q. yes-no (yes-of {t = acceptable bounds} (subst (λ (a : Plan). T (acceptable (a .boundary))) (q .holds .plan) (q .holds .sound .boundary .0))) e)
+  pub sound-boundary : (b : List Side) → b ≡ bounds → acceptable b ≡ false → Decides false (Sane k s)
+  sound-boundary b eb e0 = let e : acceptable bounds ≡ false = sym (ap acceptable eb) ∙ e0 in not-sane (λ q. yes-no (yes-of {t = acceptable bounds} (subst (λ (a : Plan). T (acceptable (a .boundary))) (q .holds .plan) (q .holds .sound .boundary .0))) e)
 
-  pub sound-capacity : cap ≡ 0 → Decides false (Sane k s)
-  sound-capacity e = not-sane (λ q. absurd (omega (arith, e, subst (λ (a : Plan). 1 ≤ a .capacity) (q .holds .plan) (q .holds .sound .capacity))))
+  pub sound-capacity : (c : ℕ) → c ≡ cap → c ≡ 0 → Decides false (Sane k s)
+  sound-capacity c ec e0 = let e : cap ≡ 0 = sym ec ∙ e0 in not-sane (λ q. absurd (omega (arith, e, subst (λ (a : Plan). 1 ≤ a .capacity) (q .holds .plan) (q .holds .sound .capacity))))
 
-  module _ (fit : Fits k s) (m u m1 u1 : List ℕ) (z : Begun m u) where
-    pub sound-tree : Trees fit m u m1 u1 false → Decides false (Sane k s)
-    sound-tree c = not-sane (λ q. yes-no (tree-passes fit (q .plan) (q .holds) m u m1 u1 false z c) refl)
+  -- the marks at the start are all 0
+  begun : Begun (unmet 513) (unmet (suc rows))
+  begun = record { no-places = zeros 513; no-groups = zeros (suc rows); long-m = length-replicate {A = ℕ} 513 0; long-u = length-replicate {A = ℕ} (suc rows) 0 }
+    where
+      zeros : (m p : ℕ) → getD (unmet m) p 0 ≡ 0
+      zeros zero p = refl
+      zeros (suc m) zero = refl
+      zeros (suc m) (suc p) = zeros m p
 
-    module _ (c : Trees fit m u m1 u1 true) (m2 : List ℕ) where
-      pub sound-places : FreePlaces m1 (getD x 0 0) 0 513 m2 false → Decides false (Sane k s)
-      sound-places w = not-sane (λ q. yes-no (places-pass fit (q .plan) (q .holds) m u m1 u1 z (found-tree fit m u m1 u1 z c) m2 false w) refl)
+  -- as the code has them: the boundary as it was read, the bounds as they were made, and the marks as they are found
+  module _ (fit : Fits k s) (b : List Side) (a : List Bound) (c : ℕ) (eb : b ≡ bounds) (ea : a ≡ whole b) (ec : c ≡ cap) (m1 u1 : List ℕ) (t : Bool) (w : Checks (ways k) c pt n x 32 b a 1 (unmet 513) (unmet (suc rows)) m1 u1 t) where
+    trees : Trees fit (unmet 513) (unmet (suc rows)) m1 u1 t
+    trees =
+        subst (λ (e : List Bound). Checks (ways k) cap pt n x 32 bounds e 1 (unmet 513) (unmet (suc rows)) m1 u1 t) (ea ∙ ap whole eb)
+        (subst (λ (e : List Side). Checks (ways k) cap pt n x 32 e a 1 (unmet 513) (unmet (suc rows)) m1 u1 t) eb
+        (subst (λ (e : ℕ). Checks (ways k) e pt n x 32 b a 1 (unmet 513) (unmet (suc rows)) m1 u1 t) ec w))
 
-      module _ (w : FreePlaces m1 (getD x 0 0) 0 513 m2 true) (u2 : List ℕ) where
-        pub sound-groups : FreeGroups u1 (getD n 0 0) 0 (suc rows) u2 false → Decides false (Sane k s)
-        sound-groups v = not-sane (λ q. yes-no (groups-pass fit (q .plan) (q .holds) m u m1 u1 z (found-tree fit m u m1 u1 z c) u2 false v) refl)
+    pub sound-tree : not t ≡ true → Decides false (Sane k s)
+    sound-tree e = not-sane (λ q. yes-no (tree-passes fit (q .plan) (q .holds) (unmet 513) (unmet (suc rows)) m1 u1 t begun trees) (not-true t e))
 
-        pub sound-all : (a b : Bool) → acceptable bounds ≡ true → cap ≢ 0 → FreeGroups u1 (getD n 0 0) 0 (suc rows) u2 true → AllMet m2 a → AllMet u2 b → Decides (a && b) (Sane k s)
-        sound-all a b ok one v ma mb =
-            let t = found-tree fit m u m1 u1 z c in
-            let lp = w .sure refl (t .places .low) in
-            let lg = v .sure refl (t .groups .low) in
+    module _ (et : not t ≡ false) (m2 : List ℕ) (y : Bool) (v : Frees (λ p. getD x p 0) (λ p. p < length x) m1 (getD x 0 0) m2 y) where
+      root : Tree1 fit (unmet 513) (unmet (suc rows)) m1 u1
+      root = found-tree fit (unmet 513) (unmet (suc rows)) m1 u1 begun (subst (λ (e : Bool). Trees fit (unmet 513) (unmet (suc rows)) m1 u1 e) (not-false t et) trees)
+
+      places : FreePlaces m1 (getD x 0 0) 0 513 m2 y
+      unfolding Frees
+      places = subst (λ (e : ℕ). FreePlaces m1 (getD x 0 0) 0 e m2 y) long (v (record { within = λ p l. omega (arith, l, long, long-x fit); below = λ p l. omega (arith, l, long, long-x fit) }) 0)
+        where
+          long : length m1 ≡ 513
+          long = root .places .long ∙ begun .long-m
+
+      pub sound-places : not y ≡ true → Decides false (Sane k s)
+      sound-places e = not-sane (λ q. yes-no (places-pass fit (q .plan) (q .holds) (unmet 513) (unmet (suc rows)) m1 u1 begun root m2 y places) (not-true y e))
+
+      module _ (ey : not y ≡ false) (u2 : List ℕ) (o : Bool) (f : Frees (λ g. getD n (4 * kid (ways k) g 0) 0) (λ g. 4 * kid (ways k) g (ways k) ≤ length n) u1 (getD n 0 0) u2 o) where
+        groups : FreeGroups u1 (getD n 0 0) 0 (suc rows) u2 o
+        unfolding Frees
+        groups = subst (λ (e : ℕ). FreeGroups u1 (getD n 0 0) 0 e u2 o) long (f (record { within = λ g l. room-in fit g (omega (arith, l, long)); below = λ g l. omega (arith, room-out fit g l, long) }) 0)
+          where
+            long : length u1 ≡ suc rows
+            long = root .groups .long ∙ begun .long-u
+
+        pub sound-groups : not o ≡ true → Decides false (Sane k s)
+        sound-groups e = not-sane (λ q. yes-no (groups-pass fit (q .plan) (q .holds) (unmet 513) (unmet (suc rows)) m1 u1 begun root u2 o groups) (not-true o e))
+
+        pub sound-all : (d e : Bool) → acceptable b ≡ true → c ≢ 0 → not o ≡ false → AllMet m2 d → AllMet u2 e → Decides (d && e) (Sane k s)
+        sound-all d e ok one eo md me =
+            let lp = places .sure (not-false y ey) (root .places .low) in
+            let lg = groups .sure (not-false o eo) (root .groups .low) in
             record {
-              sure = λ e. let y = both a b e in record { fits = fit; plan = planOf k s (t .tree); holds = holds fit m u m1 u1 m2 u2 z t lp lg (subst T (sym ok) tt) (omega (arith, pos cap one)) (ma .sure (y .0)) (mb .sure (y .1)) };
-              only = λ q. ap₂ (λ (f g : Bool). f && g) (all-places fit (q .plan) (q .holds) m u m1 u1 z t m2 a lp ma) (all-groups fit (q .plan) (q .holds) m u m1 u1 z t u2 b lg mb);
+              sure = λ h. let z = both d e h in record { fits = fit; plan = planOf k s (root .tree); holds = holds fit (unmet 513) (unmet (suc rows)) m1 u1 m2 u2 begun root lp lg (subst T (sym (sym (ap acceptable eb) ∙ ok)) tt) (omega (arith, pos c one, ec)) (md .sure (z .0)) (me .sure (z .1)) };
+              only = λ q. ap₂ (λ (g h : Bool). g && h) (all-places fit (q .plan) (q .holds) (unmet 513) (unmet (suc rows)) m1 u1 begun root m2 d lp md) (all-groups fit (q .plan) (q .holds) (unmet 513) (unmet (suc rows)) m1 u1 begun root u2 e lg me);
             }
