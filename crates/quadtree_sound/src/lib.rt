@@ -106,3 +106,104 @@ fn check_list(
     }
     (left == 0) & (b == tail)
 }
+
+// Whether the words hold a tree at node i, which is there, with this box and these bounds and so many levels below it; what it meets is marked.
+fn check_node(
+    nodes: &[u8],
+    links: &[u8],
+    points: &[u8],
+    i: usize,
+    bounds: Rectangle,
+    low: Point2D,
+    top: Point2D,
+    edge: Point2D,
+    levels: u8,
+    capacity: u32,
+    homes: &mut [u8],
+    used: &mut [u8],
+) -> bool
+    ensures { λ r. ⌜ Checks 4 capacity (pointAt 2 (words (now (points .entry)))) (words (now (nodes .entry))) (words (now (links .entry))) levels (sides2 bounds) (bounding (place2 low) (place2 top) (place2 edge)) i (now (homes .entry)) (now (used .entry)) (now (homes .exit)) (now (used .exit)) r ⌝ }
+{
+    let g = group(nodes, i);
+    let n = count(nodes, i);
+    if g == 0 {
+        if (levels > 0) & (n > capacity) {
+            return false;
+        }
+        let head = first(nodes, i);
+        let tail = last(nodes, i);
+        return check_list(links, points, head, tail, n, low, top, edge, homes);
+    }
+    if levels == 0 {
+        return false;
+    }
+    if n <= capacity {
+        return false;
+    }
+    if !claim(used, g) {
+        return false;
+    }
+    let below = levels - 1;
+    let mut c: u8 = 0;
+    while c < 4 {
+        let j = child(4, g, c);
+        let part = bounds.child(c as usize);
+        let l = low_part(bounds, low, c);
+        let t = top_part(bounds, top, c);
+        if !check_node(
+            nodes,
+            links,
+            points,
+            j,
+            part,
+            l,
+            t,
+            edge,
+            below,
+            capacity,
+            homes,
+            used,
+        ) {
+            return false;
+        }
+        c += 1;
+    }
+    children_count(nodes, 4, g) == n as u64
+}
+
+// Whether the pieces hold a sound tree.
+pub fn sound(head: &[u8], nodes: &[u8], links: &[u8], points: &[u8]) -> bool
+    ensures { λ r. ⌜ Decides r (Sane quadtree (pieces (now (head .entry)) (now (nodes .entry)) (now (links .entry)) (now (points .entry)))) ⌝ }
+{
+    if !fits(head, nodes, links, points) {
+        return false;
+    }
+    let b = boundary(head);
+    if !accepts(b) {
+        return false;
+    }
+    let n = capacity(head);
+    if n == 0 {
+        return false;
+    }
+    let mut homes: [u8; 513] = [0; 513];
+    let mut used: [u8; 86] = [0; 86];
+    let low = Point2D { x: b.x, y: b.y };
+    let top = no_top();
+    let edge = Point2D {
+        x: b.x + b.width,
+        y: b.y + b.height,
+    };
+    if !check_node(
+        nodes, links, points, 1, b, low, top, edge, 32, n, &mut homes, &mut used,
+    ) {
+        return false;
+    }
+    if !free_places(links, &mut homes) {
+        return false;
+    }
+    if !free_groups(nodes, 4, &mut used) {
+        return false;
+    }
+    all_met(&homes) & all_met(&used)
+}

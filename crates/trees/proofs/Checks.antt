@@ -237,7 +237,7 @@ module _ (ways cap : ℕ) (pt : ℕ → Point) (n x : List ℕ) where
   pub check-few : (d : ℕ) (b : List Side) (a : List Bound) (i : ℕ) (m u m' u' : List ℕ) (g v : ℕ) → 0 < ways → g ≡ getD n (4 * i) 0 → v ≡ getD n (4 * i + 3) 0 → g ≢ 0 → v ≤ cap → Checks d b a i m u m' u' false
   check-few d b a i m u m' u' g v lw eg ev nz h = divided-not d b a i m u m' u' g v eg ev nz lw (λ l r f. absurd (omega arith))
 
-  pub check-met : (d : ℕ) (b : List Side) (a : List Bound) (i : ℕ) (m u u1 m' u' : List ℕ) (g v : ℕ) → 0 < ways → g ≡ getD n (4 * i) 0 → v ≡ getD n (4 * i + 3) 0 → g ≢ 0 → Claims u u1 g false → Checks d b a i m u m' u' false
+  check-met : (d : ℕ) (b : List Side) (a : List Bound) (i : ℕ) (m u u1 m' u' : List ℕ) (g v : ℕ) → 0 < ways → g ≡ getD n (4 * i) 0 → v ≡ getD n (4 * i + 3) 0 → g ≢ 0 → Claims u u1 g false → Checks d b a i m u m' u' false
   unfolding Checks
   check-met d b a i m u u1 m' u' g v lw eg ev nz c sz room = divided-not d b a i m u m' u' g v eg ev nz lw (λ l r f. no-true (c .only (sz .few g r) f)) sz room
 
@@ -375,38 +375,40 @@ module _ (ways cap : ℕ) (pt : ℕ → Point) (n x : List ℕ) where
               z .only ts row (p .1) f (λ o. omega (arith, k o, mk .sums o, ap (is o) e)) (ef ∙ eq-eqb (counts ways n g 0 ways) v (ap (counts ways n g 0) (sym (q .4)) ∙ row-counts d g 0 ts row ∙ sym (q .3) ∙ sym ev))
 
   -- ---- the loop over the children: what is left leads to the whole
-  pub record Descending (d : ℕ) (b : List Side) (a : List Bound) (i : ℕ) (m u : List ℕ) (g : ℕ) (fin : Bool) (c : ℕ) (nm nu : List ℕ) : Type 0 where
-    pub same-m : length nm ≡ length m
-    pub same-u : length nu ≡ length u
-    pub most : c ≤ ways
-    pub on : (m' u' : List ℕ) (r : Bool) → Rows (d - 1) b a g c fin nm nu m' u' r → Checks d b a i m u m' u' r
+  module _ (d : ℕ) (b : List Side) (a : List Bound) (g : ℕ) (fin : Bool) (m u : List ℕ) where
+    pub record Descending (c : ℕ) (nm nu : List ℕ) : Type 0 where
+      pub same-m : length nm ≡ length m
+      pub same-u : length nu ≡ length u
+      pub most : c ≤ ways
+      pub on : (m' u' : List ℕ) (r : Bool) → Rows d b a g c fin nm nu m' u' r → Rows d b a g 0 fin m u m' u' r
 
-  pub descending-start : (d : ℕ) (b : List Side) (a : List Bound) (i : ℕ) (m u u1 : List ℕ) (g v : ℕ) (t : Bool) → 0 < ways → g ≡ getD n (4 * i) 0 → v ≡ getD n (4 * i + 3) 0 → g ≢ 0 → d ≢ 0 → cap < v → Claims u u1 g t → not t ≡ false
-      → Descending d b a i m u g (eqb (counts ways n g 0 ways) v) 0 m u1
-  descending-start d b a i m u u1 g v t lw eg ev nz nd h c e =
-      let c1 : Claims u u1 g true = subst (λ (k : Bool). Claims u u1 g k) (not-false t e) c in
-      record {
-        same-m = refl;
-        same-u = ap length (c1 .sure refl .2) ∙ length-set u g 1;
-        most = omega arith;
-        on = λ m' u' r w. check-kids d b a i m u u1 m' u' g v (eqb (counts ways n g 0 ways) v) r lw eg ev nz nd h c1 refl w;
+    pub descending-start : Descending 0 m u
+    descending-start = record { same-m = refl; same-u = refl; most = omega arith; on = λ m' u' r w. w }
+
+    module _ (c : ℕ) (nm nu : List ℕ) (w : Descending c nm nu) where
+      pub descending-step : (j : ℕ) (b' : List Side) (a' : List Bound) (nm' nu' : List ℕ) (t : Bool) → c < ways → j ≡ kid ways g c → b' ≡ part b c → a' ≡ narrowed b a c → length nm' ≡ length nm → length nu' ≡ length nu → Checks d b' a' j nm nu nm' nu' t → not t ≡ false
+          → Descending (c + 1) nm' nu'
+      descending-step j b' a' nm' nu' t lc ej eb ea em eu k e = record {
+        same-m = em ∙ w .same-m;
+        same-u = eu ∙ w .same-u;
+        most = omega (arith, lc);
+        on = λ m' u' r v. w .on m' u' r (rows-step d b a g c j (c + 1) fin b' a' nm nu nm' nu' m' u' r lc ej eb ea (add-one c) (subst (λ (y : Bool). Checks d b' a' j nm nu nm' nu' y) (not-false t e) k) v);
       }
 
-  module _ (d : ℕ) (b : List Side) (a : List Bound) (i : ℕ) (m u : List ℕ) (g : ℕ) (fin : Bool) (c : ℕ) (nm nu : List ℕ) (w : Descending d b a i m u g fin c nm nu) where
-    pub descending-step : (j : ℕ) (b' : List Side) (a' : List Bound) (nm' nu' : List ℕ) (t : Bool) → c < ways → j ≡ kid ways g c → b' ≡ part b c → a' ≡ narrowed b a c → length nm' ≡ length nm → length nu' ≡ length nu → Checks (d - 1) b' a' j nm nu nm' nu' t → not t ≡ false
-        → Descending d b a i m u g fin (c + 1) nm' nu'
-    descending-step j b' a' nm' nu' t lc ej eb ea em eu k e = record {
-      same-m = em ∙ w .same-m;
-      same-u = eu ∙ w .same-u;
-      most = omega (arith, lc);
-      on = λ m' u' r v. w .on m' u' r (rows-step (d - 1) b a g c j (c + 1) fin b' a' nm nu nm' nu' m' u' r lc ej eb ea (add-one c) (subst (λ (y : Bool). Checks (d - 1) b' a' j nm nu nm' nu' y) (not-false t e) k) v);
-    }
+      pub descending-not : (j : ℕ) (b' : List Side) (a' : List Bound) (nm' nu' m' u' : List ℕ) (t : Bool) → c < ways → j ≡ kid ways g c → b' ≡ part b c → a' ≡ narrowed b a c → Checks d b' a' j nm nu nm' nu' t → not t ≡ true → Rows d b a g 0 fin m u m' u' false
+      descending-not j b' a' nm' nu' m' u' t lc ej eb ea k e = w .on m' u' false (rows-not d b a g c j fin b' a' nm nu nm' nu' m' u' lc ej eb ea (subst (λ (y : Bool). Checks d b' a' j nm nu nm' nu' y) (not-true t e) k))
 
-    pub descending-not : (j : ℕ) (b' : List Side) (a' : List Bound) (nm' nu' m' u' : List ℕ) (t : Bool) → c < ways → j ≡ kid ways g c → b' ≡ part b c → a' ≡ narrowed b a c → Checks (d - 1) b' a' j nm nu nm' nu' t → not t ≡ true → Checks d b a i m u m' u' false
-    descending-not j b' a' nm' nu' m' u' t lc ej eb ea k e = w .on m' u' false (rows-not (d - 1) b a g c j fin b' a' nm nu nm' nu' m' u' lc ej eb ea (subst (λ (y : Bool). Checks (d - 1) b' a' j nm nu nm' nu' y) (not-true t e) k))
+      pub descending-end : (r : Bool) → ways ≤ c → r ≡ fin → Rows d b a g 0 fin m u nm nu r
+      descending-end r h e = subst (λ (y : Bool). Rows d b a g 0 fin m u nm nu y) (sym e) (w .on nm nu fin (rows-end d b a g c nm nu fin (omega (arith, h, w .most))))
 
-    pub descending-end : (r : Bool) → ways ≤ c → r ≡ fin → Checks d b a i m u nm nu r
-    descending-end r h e = subst (λ (y : Bool). Checks d b a i m u nm nu y) (sym e) (w .on nm nu fin (rows-end (d - 1) b a g c nm nu fin (omega (arith, h, w .most))))
+  -- ---- the divided node, as the code tests it
+  pub check-divided : (d : ℕ) (b : List Side) (a : List Bound) (i : ℕ) (m u u1 m' u' : List ℕ) (g v : ℕ) (t r : Bool) → 0 < ways → g ≡ getD n (4 * i) 0 → v ≡ getD n (4 * i + 3) 0 → g ≢ 0 → d ≢ 0 → cap < v → Claims u u1 g t → not t ≡ false
+      → Rows (d - 1) b a g 0 (eqb (counts ways n g 0 ways) v) m u1 m' u' r → Checks d b a i m u m' u' r
+  check-divided d b a i m u u1 m' u' g v t r lw eg ev nz nd h c e w =
+      check-kids d b a i m u u1 m' u' g v (eqb (counts ways n g 0 ways) v) r lw eg ev nz nd h (subst (λ (k : Bool). Claims u u1 g k) (not-false t e) c) refl w
+
+  pub check-taken : (d : ℕ) (b : List Side) (a : List Bound) (i : ℕ) (m u u1 m' u' : List ℕ) (g v : ℕ) (t : Bool) → 0 < ways → g ≡ getD n (4 * i) 0 → v ≡ getD n (4 * i + 3) 0 → g ≢ 0 → Claims u u1 g t → not t ≡ true → Checks d b a i m u m' u' false
+  check-taken d b a i m u u1 m' u' g v t lw eg ev nz c e = check-met d b a i m u u1 m' u' g v lw eg ev nz (subst (λ (k : Bool). Claims u u1 g k) (not-true t e) c)
 
   -- ---- as the code tests an undivided node
   pub check-over : (d : ℕ) (b : List Side) (a : List Bound) (i : ℕ) (m u m' u' : List ℕ) (g v : ℕ) → g ≡ getD n (4 * i) 0 → v ≡ getD n (4 * i + 3) 0 → g ≡ 0 → ltb 0 d && ltb cap v ≡ true → Checks d b a i m u m' u' false
