@@ -7,3 +7,4 @@ pub mod Seeks
 pub mod Tables
 pub mod Turns
 pub mod Walks
+pub mod Puts
