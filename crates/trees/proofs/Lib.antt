@@ -1,3 +1,4 @@
+pub mod Changes
 pub mod Collects
 pub mod Descents
 pub mod Deletes
