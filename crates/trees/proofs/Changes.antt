@@ -6,12 +6,13 @@ use mathlib.Core.List.{List, [], _∷_, map}
 use Prim.Native.Nat.{ℕ, zero, suc, _+_, _-_, _*_, _/_, _^_, _<_, _≤_}
 use native.Mathlib.Nat.{le-of-mul-le-mul-left, mul-le-mul-left}
 use native.Mathlib.Omega.{arith}
-use lib.Dec.{leb, ltb, T}
+use lib.Dec.{leb, leb→le, ltb, T}
 use lib.Ieee.{Float}
 use lib.ListN.{length, getD}
 use borrow.Author.Tests.{le-leb, le-ltb, lt-leb, lt-ltb}
 use Rattle.model.specs.Boxes.{Side, inside, part, route}
 use Rattle.model.specs.Calls.{Insert, Kind, Outcome, Plan, call, done, full, give, insertCall, noNodes, number, outside, refuse, step, tree, ways, with-root}
+use Rattle.model.specs.Soundness.{Sound}
 use Rattle.model.specs.Trees.{Point, Tree, bag, count, insert, nodes}
 use Rattle.model.proofs.Counts.{Good, in-range, part-ways, route-lt}
 use Rattle.model.proofs.Calls.{after}
@@ -201,3 +202,45 @@ module _ (k : Kind) (m : ℕ) (em : Roomy k m) (s : Pieces) (q : Point) where
       inserts-crowded z = does-held k (Insert q) s s 6 0
           (λ t fl fp f h. refusal k s (planOf k s t) (step k (tree (planOf k s t)) (Insert q)) noNodes 6 (says-held k s t fl fp f h)
           (insert-crowded k (planOf k s t) q within (counts t fl fp f h) (room-is t fl fp f h ∙ z)) refl)
+
+      module _ (n' x' w' : List ℕ) (yes : v ≡ true) (ln : length n' ≡ length (s .nodes)) (lx : length x' ≡ length (s .links)) (lp : length w' ≡ length (s .points))
+          (st : Stores (k .axes) (ways k) cap 32 b 1 q (pool (s .nodes) (s .links)) (pool n' x') (words (s .points)) (words w')) (fq : F64Point q) where
+        abbrev left : Pieces
+        left = pieces (s .head) n' x' w'
+
+        stored : (t : PTree 32) (fl : List ℕ) (p : ℕ) (fp : List ℕ) → Fits k s → Held k s t fl (p ∷ fp) → Stored (k .axes) (ways k) cap 32 box 1 q (pool n' x') (words (s .points)) (words w') t fl p fp
+        unfolding Stores
+        stored t fl p fp f h =
+            subst (λ (u : List Side). Stores (k .axes) (ways k) cap 32 u 1 q (pool (s .nodes) (s .links)) (pool n' x') (words (s .points)) (words w')) eb st t fl p fp (h .world)
+            (some-ways k s t fl (p ∷ fp) f h) (whole k s t fl (p ∷ fp) f h .axes) (whole k s t fl (p ∷ fp) f h .good) free (omega (arith, links-long k s t fl (p ∷ fp) f h)) (omega (arith, fewer t fl (p ∷ fp) f h))
+            (omega (arith, length-words (s .points), f .points, mul-le-mul-left (k .axes + 1) near))
+          where
+            near : suc p ≤ 513
+            near = omega (arith, h .world .spare .2, links-long k s t fl (p ∷ fp) f h)
+
+            free : needed cap 32 box q (erase at 32 t) ≤ length fl
+            free = leb→le (needed cap 32 box q (erase at 32 t)) (length fl) (subst T (sym yes ∙ roomy t fl (p ∷ fp) f h) tt)
+
+        keep : (t : PTree 32) (fl : List ℕ) (p : ℕ) (fp : List ℕ) → Fits k s → Held k s t fl (p ∷ fp) → Gives k (give (tree (with-root (planOf k s t) (after k (planOf k s t) q))) 0) s left 0 0
+        unfolding number
+        keep t fl p fp f h =
+            let a = planOf k s t in
+            let z = stored t fl p fp f h in
+            let i = whole k s t fl (p ∷ fp) f h in
+            let e : erase (pointAt (k .axes) (words w')) 32 (z .tree) ≡ after k a q = z .erased ∙ sym (insert-is (ways k) cap 32 box q (a .root) (i .axes) (i .good)) in
+            let f' : Fits k left = record { head = f .head; nodes = ln ∙ f .nodes; links = lx ∙ f .links; points = lp ∙ f .points } in
+            let h' : Held k left (z .tree) (z .free) fp = record {
+              world = z .world;
+              each-group = λ g nz le. z .groups g ∙ h .each-group g nz (omega (arith, le, ln, length-words n', length-words (s .nodes)));
+              each-place = λ u nz lt. z .places u ∙ h .each-place u nz (omega (arith, lt, lx, length-words x', length-words (s .links)));
+              sound = subst (λ (u : Tree 32). Sound k (with-root a u)) (sym e) (insert-sound k a (plan-numbers k s t) (h .sound) q fq (subst T (sym within) tt) .0);
+            } in
+            record { reply = refl; figure = refl; after = subst (λ (u : Tree 32). Says k left (tree (with-root a u))) e (says-held k left (z .tree) (z .free) fp f' h'); refused = λ ne o. absurd (ne refl) }
+
+        pub inserts-done : DoesHeld k (Insert q) s left 0 0
+        inserts-done = does-held k (Insert q) s left 0 0 (λ t fl fp f h. go t fl fp f h (places-held k s t fl fp f h))
+          where
+            go : (t : PTree 32) (fl fp : List ℕ) → Fits k s → Held k s t fl fp → size 32 t + length fp ≡ 512 → Gives k (step k (tree (planOf k s t)) (Insert q)) s left 0 0
+            go t fl [] f h all = absurd (omega (arith, all, fewer t fl [] f h))
+            go t fl (p ∷ fp) f h all =
+                subst (λ (o : Outcome). Gives k o s left 0 0) (sym (insert-done k (planOf k s t) q within (counts t fl (p ∷ fp) f h) (room-is t fl (p ∷ fp) f h ∙ yes))) (keep t fl p fp f h)
