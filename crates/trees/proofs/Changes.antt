@@ -8,7 +8,7 @@ use native.Mathlib.Nat.{le-of-mul-le-mul-left, mul-le-mul-left}
 use native.Mathlib.Omega.{arith}
 use lib.Dec.{leb, leb→le, ltb, T}
 use lib.Ieee.{Float}
-use lib.ListN.{length, getD}
+use lib.ListN.{length, getD, length-set}
 use borrow.Author.Tests.{le-leb, le-ltb, lt-leb, lt-ltb}
 use Rattle.model.specs.Boxes.{Side, inside, part, route}
 use Rattle.model.specs.Calls.{Insert, Kind, Outcome, Plan, call, done, full, give, insertCall, noNodes, number, outside, refuse, step, tree, ways, with-root}
@@ -27,7 +27,7 @@ use Rattle.pool.specs.Lists.{ifz, is, occ}
 use Rattle.pool.specs.Meanings.{TakesPlace, Tells}
 use Rattle.pool.specs.Trees.{leaf, branch, PTree, erase, groupsAt, none, placesAt, size}
 use Rattle.pool.specs.Worlds.{Ready, Rep, World}
-use Rattle.pool.specs.Writes.{Pool, both, kid, pool}
+use Rattle.pool.specs.Writes.{Pool, both, kid, pool, popped}
 use Rattle.pool.proofs.Erase.{erase-agree}
 use Rattle.pool.proofs.Lists.{by-lt, ifz-no, ifz-yes, is-same}
 use Rattle.pool.proofs.Trees.{groupCount}
@@ -104,8 +104,12 @@ module _ (axes ways cap d : ℕ) (b : List Side) (i : ℕ) (q : Point) where
       (t : PTree d) (fl : List ℕ) (p : ℕ) (fp : List ℕ) → World d ways s i t fl (p ∷ fp) → 0 < ways → 2 ^ length b ≡ ways → Good ways cap d b (erase (pointAt axes w) d t)
       → needed cap d b q (erase (pointAt axes w) d t) ≤ length fl → length (s .links) ≤ 513 → size d t + 1 < 4294967296 → (axes + 1) * p + axes < length w / 2 → Stored r w w' t fl p fp
 
-  module _ (s r : Pool) (x w w' : List ℕ) (p' : ℕ) (tk : TakesPlace (s .links) x p') (lx : length x ≡ length (s .links)) (ew : w' ≡ putPoint axes w p' q) (eq : length (q .at) ≡ axes) (fq : F64Point q)
+  module _ (s r : Pool) (x w w' : List ℕ) (p' : ℕ) (ex : x ≡ popped (s .links)) (tk : TakesPlace (s .links) x p') (ew : w' ≡ putPoint axes w p' q) (eq : length (q .at) ≡ axes) (fq : F64Point q)
       (go : length x ≤ 513 → Inserts ways cap (pointAt axes w') d b (both (s .nodes) x) r i p') where
+    lx : length x ≡ length (s .links)
+    unfolding popped
+    lx = ap (λ (l : List ℕ). length l) ex ∙ length-set (s .links) 0 (getD (s .links) (getD (s .links) 0 0) 0)
+
     -- the place that is written is not in the tree
     same-tree : (t : PTree d) → placesAt d p' t ≡ 0 → erase (pointAt axes w') d t ≡ erase (pointAt axes w) d t
     same-tree t o = erase-agree (pointAt axes w') (pointAt axes w) d t (λ u nz. ap (λ (v : List ℕ). pointAt axes v u) ew ∙ point-other axes w p' q eq u (λ e. nz (ap (λ (v : ℕ). placesAt d v t) e ∙ o)))
@@ -159,10 +163,12 @@ module _ (k : Kind) (m : ℕ) (em : Roomy k m) (s : Pieces) (q : Point) where
         (λ t fl fp f h. refusal k s (planOf k s t) (step k (tree (planOf k s t)) (Insert q)) full 5 (says-held k s t fl fp f h)
         (insert-full k (planOf k s t) q within (le-ltb (count 32 (planOf k s t .root)) 512 (omega (arith, h5, ec, size-read k s t fl fp f h, size-held k s t fl fp f h)))) refl)
 
-    module _ (few : c < 512) (v : Bool) (rm : Rooms (ways k) cap at (q .at) (words (s .nodes)) (words (s .links)) 32 b 1 v) where
+    module _ (few : c < 512) (o : ℕ) (eo : o ≡ cap) (v : Bool) (rm : Rooms (ways k) o at (q .at) (words (s .nodes)) (words (s .links)) 32 b 1 v) where
       roomy : (t : PTree 32) (fl fp : List ℕ) → Fits k s → Held k s t fl fp → v ≡ leb (needed cap 32 box q (erase at 32 t)) (length fl)
       unfolding Rooms
-      roomy t fl fp f h = rm (q .payload) t fl fp (h .world) (ap (λ (u : List Side). 2 ^ length u) eb ∙ whole k s t fl fp f h .axes) ∙ ap (λ (u : List Side). leb (needed cap 32 u q (erase at 32 t)) (length fl)) eb
+      roomy t fl fp f h =
+          rm (q .payload) t fl fp (h .world) (ap (λ (u : List Side). 2 ^ length u) eb ∙ whole k s t fl fp f h .axes)
+          ∙ ap₂ (λ (j : ℕ) (u : List Side). leb (needed j 32 u q (erase at 32 t)) (length fl)) eo eb
 
       -- groups that are free are nodes that may come
       room-is : (t : PTree 32) (fl fp : List ℕ) → Fits k s → Held k s t fl fp → leb (nodes 32 (after k (planOf k s t) q)) (k .most) ≡ v
@@ -204,14 +210,15 @@ module _ (k : Kind) (m : ℕ) (em : Roomy k m) (s : Pieces) (q : Point) where
           (insert-crowded k (planOf k s t) q within (counts t fl fp f h) (room-is t fl fp f h ∙ z)) refl)
 
       module _ (n' x' w' : List ℕ) (yes : v ≡ true) (ln : length n' ≡ length (s .nodes)) (lx : length x' ≡ length (s .links)) (lp : length w' ≡ length (s .points))
-          (st : Stores (k .axes) (ways k) cap 32 b 1 q (pool (s .nodes) (s .links)) (pool n' x') (words (s .points)) (words w')) (fq : F64Point q) where
+          (st : Stores (k .axes) (ways k) o 32 b 1 q (pool (s .nodes) (s .links)) (pool n' x') (words (s .points)) (words w')) (fq : F64Point q) where
         abbrev left : Pieces
         left = pieces (s .head) n' x' w'
 
         stored : (t : PTree 32) (fl : List ℕ) (p : ℕ) (fp : List ℕ) → Fits k s → Held k s t fl (p ∷ fp) → Stored (k .axes) (ways k) cap 32 box 1 q (pool n' x') (words (s .points)) (words w') t fl p fp
         unfolding Stores
         stored t fl p fp f h =
-            subst (λ (u : List Side). Stores (k .axes) (ways k) cap 32 u 1 q (pool (s .nodes) (s .links)) (pool n' x') (words (s .points)) (words w')) eb st t fl p fp (h .world)
+            subst (λ (j : ℕ). Stores (k .axes) (ways k) j 32 box 1 q (pool (s .nodes) (s .links)) (pool n' x') (words (s .points)) (words w')) eo
+            (subst (λ (u : List Side). Stores (k .axes) (ways k) o 32 u 1 q (pool (s .nodes) (s .links)) (pool n' x') (words (s .points)) (words w')) eb st) t fl p fp (h .world)
             (some-ways k s t fl (p ∷ fp) f h) (whole k s t fl (p ∷ fp) f h .axes) (whole k s t fl (p ∷ fp) f h .good) free (omega (arith, links-long k s t fl (p ∷ fp) f h)) (omega (arith, fewer t fl (p ∷ fp) f h))
             (omega (arith, length-words (s .points), f .points, mul-le-mul-left (k .axes + 1) near))
           where

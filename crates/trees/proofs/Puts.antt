@@ -26,6 +26,19 @@ unfoldable pub putPoint : (axes : ℕ) → List ℕ → ℕ → Point → List �
 unfolding putFloats
 putPoint axes w p q = set (putFloats (q .at) w ((axes + 1) * p)) (2 * ((axes + 1) * p) + 2 * axes) (q .payload)
 
+-- ---- as the code has it, one float after another and then the payload
+pub put-end : (w : List ℕ) (j : ℕ) → w ≡ putFloats [] w j
+unfolding putFloats
+put-end w j = refl
+
+pub put-next : (v : Float) (vs : List Float) (w w1 r : List ℕ) (j : ℕ) → w1 ≡ setPair w j (toBits binary64 v) → r ≡ putFloats vs w1 (j + 1) → r ≡ putFloats (v ∷ vs) w j
+unfolding putFloats
+put-next v vs w w1 r j e h = h ∙ ap (λ (u : List ℕ). putFloats vs u (j + 1)) e
+
+pub put-last : (axes : ℕ) (w w1 r : List ℕ) (p : ℕ) (q : Point) → w1 ≡ putFloats (q .at) w ((axes + 1) * p) → r ≡ set w1 (2 * ((axes + 1) * p) + 2 * axes) (q .payload) → r ≡ putPoint axes w p q
+unfolding putPoint
+put-last axes w w1 r p q e h = h ∙ ap (λ (u : List ℕ). set u (2 * ((axes + 1) * p) + 2 * axes) (q .payload)) e
+
 -- ---- floats
 put-length : (vs : List Float) (w : List ℕ) (j : ℕ) → length (putFloats vs w j) ≡ length w
 unfolding putFloats
@@ -78,10 +91,6 @@ half a b = omega arith
 module _ (axes : ℕ) (w : List ℕ) (p : ℕ) (q : Point) (e : length (q .at) ≡ axes) where
   abbrev first : ℕ
   first = (axes + 1) * p
-
-  pub put-point-length : length (putPoint axes w p q) ≡ length w
-  unfolding putPoint
-  put-point-length = length-set (putFloats (q .at) w first) (2 * first + 2 * axes) (q .payload) ∙ put-length (q .at) w first
 
   -- what was written is read back
   pub point-back : F64Point q → (axes + 1) * p + axes < length w / 2 → pointAt axes (putPoint axes w p q) p ≡ q
