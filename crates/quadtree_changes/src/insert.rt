@@ -32,7 +32,16 @@ fn has_room(
     ensures { λ r. ⌜ Rooms 4 capacity (pointAt 2 (words (now (points .entry)))) (place2 at) (words (now (nodes .entry))) (words (now (links .entry))) 32 (sides2 bounds) 1 r ⌝ }
 {
     let leaf = leaf_of(nodes, 1, bounds, 32, at);
-    let k = need(nodes, links, points, leaf.node, leaf.bounds, leaf.levels, capacity, at);
+    let k = need(
+        nodes,
+        links,
+        points,
+        leaf.node,
+        leaf.bounds,
+        leaf.levels,
+        capacity,
+        at,
+    );
     has_groups(nodes, 4, k)
 }
 

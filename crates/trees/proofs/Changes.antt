@@ -73,19 +73,19 @@ module _ (ways cap : ℕ) (pt : ℕ → Point) (v : List Float) (n x : List ℕ)
 
 -- ---- the ends of an insertion
 module _ (k : Kind) (a : Plan) (p : Point) where
-  insert-outside : inside (a .boundary) (p .at) ≡ false → step k (tree a) (Insert p) ≡ refuse outside (tree a)
+  pub insert-outside : inside (a .boundary) (p .at) ≡ false → step k (tree a) (Insert p) ≡ refuse outside (tree a)
   unfolding step call insertCall
   insert-outside e = rw (e, insertCall)
 
-  insert-full : inside (a .boundary) (p .at) ≡ true → ltb (count 32 (a .root)) 512 ≡ false → step k (tree a) (Insert p) ≡ refuse full (tree a)
+  pub insert-full : inside (a .boundary) (p .at) ≡ true → ltb (count 32 (a .root)) 512 ≡ false → step k (tree a) (Insert p) ≡ refuse full (tree a)
   unfolding step call insertCall
   insert-full e c = rw (e, c, insertCall)
 
-  insert-crowded : inside (a .boundary) (p .at) ≡ true → ltb (count 32 (a .root)) 512 ≡ true → leb (nodes 32 (after k a p)) (k .most) ≡ false → step k (tree a) (Insert p) ≡ refuse noNodes (tree a)
+  pub insert-crowded : inside (a .boundary) (p .at) ≡ true → ltb (count 32 (a .root)) 512 ≡ true → leb (nodes 32 (after k a p)) (k .most) ≡ false → step k (tree a) (Insert p) ≡ refuse noNodes (tree a)
   unfolding step call insertCall
   insert-crowded e c l = rw (e, c, l, insertCall)
 
-  insert-done : inside (a .boundary) (p .at) ≡ true → ltb (count 32 (a .root)) 512 ≡ true → leb (nodes 32 (after k a p)) (k .most) ≡ true → step k (tree a) (Insert p) ≡ give (tree (with-root a (after k a p))) 0
+  pub insert-done : inside (a .boundary) (p .at) ≡ true → ltb (count 32 (a .root)) 512 ≡ true → leb (nodes 32 (after k a p)) (k .most) ≡ true → step k (tree a) (Insert p) ≡ give (tree (with-root a (after k a p))) 0
   unfolding step call insertCall
   insert-done e c l = rw (e, c, l, insertCall)
 

@@ -1,3 +1,4 @@
+pub mod Bulks
 pub mod Changes
 pub mod Collects
 pub mod Deletes
