@@ -102,7 +102,7 @@ last-room : (d ways : ℕ) (n x : List ℕ) (k : ℕ) (t : PTree d) → 0 < ways
 last-room d ways n x k t lw r = omega (arith, lw, rep-low d ways n x (kid ways k (ways - 1)) t r)
 
 module _ (ways m : ℕ) (n : List ℕ) (lw : 0 < ways) (e : length n ≡ 4 * (ways * suc m)) where
-  group-low : (g : ℕ) → 4 * kid ways g ways ≤ length n → g < suc m
+  pub group-low : (g : ℕ) → 4 * kid ways g ways ≤ length n → g < suc m
   group-low g h = by-lt g (suc m) (λ lt. lt) (λ le. absurd (omega (arith, e, h, lw, mul-le-mul-left ways le)))
 
   group-high : (g : ℕ) → g < suc m → 4 * kid ways g ways ≤ length n

@@ -34,7 +34,7 @@ floats-f64 : (a : ℕ) (ns : List ℕ) (j : ℕ) → All F64 (floats a ns j)
 floats-f64 zero ns j = tt
 floats-f64 (suc a) ns j = (ofBits-fits binary64 (getD ns j 0), floats-f64 a ns (j + 1))
 
-sides-f64 : (cs es : List Float) → All F64 cs → All F64 es → All F64Side (zipWith (λ c e. record { corner = c; extent = e }) cs es)
+pub sides-f64 : (cs es : List Float) → All F64 cs → All F64 es → All F64Side (zipWith (λ c e. record { corner = c; extent = e }) cs es)
 unfolding zipWith
 sides-f64 [] es f g = tt
 sides-f64 (c ∷ cs) [] f g = tt

@@ -1,6 +1,7 @@
 pub mod Bulks
 pub mod Changes
 pub mod Collects
+pub mod Creates
 pub mod Deletes
 pub mod Descents
 pub mod Finds

@@ -1,12 +1,13 @@
--- A point that is written to a place, and the points of the other places. Over any number of axes. Assumes nothing.
+-- A point that is written to a place, the points of the other places, and a head that is written. Over any number of axes. Assumes nothing.
 use mathlib.Core.Path.{_≡_, refl, ap, ap₂, sym, _∙_}
 use mathlib.Core.Logic.{_≢_}
-use mathlib.Core.List.{List, [], _∷_}
+use mathlib.Core.List.{List, [], _∷_, zipWith}
 use Prim.Native.Nat.{ℕ, zero, suc, _+_, _*_, _/_, _<_, _≤_}
 use native.Mathlib.Omega.{arith}
 use lib.Ieee.{Float, binary64, ofBits, toBits}
 use lib.ListN.{length, getD, set, length-set}
 use lib.Seq.{getD-set-same, getD-set-other}
+use Rattle.model.specs.Boxes.{Side}
 use Rattle.model.specs.Soundness.{All}
 use Rattle.model.specs.Trees.{Point}
 use Rattle.model.proofs.Inside.{F64}
@@ -14,6 +15,7 @@ use Rattle.model.proofs.Sound.{F64Point}
 use Rattle.words.specs.Words.{pairs, setPair}
 use Rattle.words.proofs.Pairs.{float-apart, float-back, float-other, length-setPair, setPair-other}
 use Rattle.pool.proofs.Trees.{kid-inj}
+use Rattle.trees.specs.Pieces.{boundaryOf, capacityOf}
 use Rattle.trees.specs.Points.{floats, pointAt}
 
 -- floats one after another, from number j on
@@ -25,6 +27,11 @@ putFloats (v ∷ vs) w j = putFloats vs (setPair w j (toBits binary64 v)) (j + 1
 unfoldable pub putPoint : (axes : ℕ) → List ℕ → ℕ → Point → List ℕ
 unfolding putFloats
 putPoint axes w p q = set (putFloats (q .at) w ((axes + 1) * p)) (2 * ((axes + 1) * p) + 2 * axes) (q .payload)
+
+-- the head: the corners, the extents and the capacity
+unfoldable pub putHead : (axes : ℕ) → List ℕ → (corners extents : List Float) → ℕ → List ℕ
+unfolding putFloats
+putHead axes w cs es cap = set (putFloats es (putFloats cs w 0) axes) (4 * axes) cap
 
 -- ---- as the code has it, one float after another and then the payload
 pub put-end : (w : List ℕ) (j : ℕ) → w ≡ putFloats [] w j
@@ -38,6 +45,10 @@ put-next v vs w w1 r j e h = h ∙ ap (λ (u : List ℕ). putFloats vs u (j + 1)
 pub put-last : (axes : ℕ) (w w1 r : List ℕ) (p : ℕ) (q : Point) → w1 ≡ putFloats (q .at) w ((axes + 1) * p) → r ≡ set w1 (2 * ((axes + 1) * p) + 2 * axes) (q .payload) → r ≡ putPoint axes w p q
 unfolding putPoint
 put-last axes w w1 r p q e h = h ∙ ap (λ (u : List ℕ). set u (2 * ((axes + 1) * p) + 2 * axes) (q .payload)) e
+
+pub put-head : (axes : ℕ) (w w1 w2 r : List ℕ) (cs es : List Float) (cap : ℕ) → w1 ≡ putFloats cs w 0 → w2 ≡ putFloats es w1 axes → r ≡ set w2 (4 * axes) cap → r ≡ putHead axes w cs es cap
+unfolding putHead
+put-head axes w w1 w2 r cs es cap e1 e2 e = e ∙ ap (λ (u : List ℕ). set u (4 * axes) cap) (e2 ∙ ap (λ (u : List ℕ). putFloats es u axes) e1)
 
 -- ---- floats
 put-length : (vs : List Float) (w : List ℕ) (j : ℕ) → length (putFloats vs w j) ≡ length w
@@ -116,3 +127,31 @@ module _ (axes : ℕ) (w : List ℕ) (p : ℕ) (q : Point) (e : length (q .at) �
 
       far : (u c : ℕ) → u < axes + 1 → c < axes + 1 → (axes + 1) * p + u ≢ (axes + 1) * r + c
       far u c lu lc k = ne (sym (kid-inj (axes + 1) p r u c lu lc k))
+
+-- ---- heads
+module _ (axes : ℕ) (w : List ℕ) (cs es : List Float) (cap : ℕ) (ec : length cs ≡ axes) (ee : length es ≡ axes) (room : 4 * axes < length w) where
+  corners : List ℕ
+  corners = putFloats cs w 0
+
+  corners-long : length corners ≡ length w
+  unfolding corners
+  corners-long = put-length cs w 0
+
+  extents-long : length (putFloats es corners axes) ≡ length w
+  extents-long = put-length es corners axes ∙ corners-long
+
+  whole-half : (4 * axes) / 2 ≡ 2 * axes
+  whole-half = omega arith
+
+  pub head-boundary : All F64 cs → All F64 es → boundaryOf axes (putHead axes w cs es cap) ≡ zipWith (λ c e. record { corner = c; extent = e }) cs es
+  unfolding putHead corners
+  head-boundary fc fe = ap₂ {C = List Side} (zipWith (λ c e. record { corner = c; extent = e }))
+      (word-floats axes 0 (putFloats es corners axes) (4 * axes) cap (λ c lc k. absurd (omega (arith, lc, k, whole-half)))
+      ∙ put-floats axes 0 es corners axes (λ c e lc le k. absurd (omega (arith, lc, k)))
+      ∙ ap (λ (a : ℕ). floats a (pairs corners) 0) (sym ec) ∙ put-back cs w 0 fc (omega (arith, ec, room)))
+      (word-floats axes axes (putFloats es corners axes) (4 * axes) cap (λ c lc k. absurd (omega (arith, lc, k, whole-half)))
+      ∙ ap (λ (a : ℕ). floats a (pairs (putFloats es corners axes)) axes) (sym ee) ∙ put-back es corners axes fe (omega (arith, ee, room, corners-long)))
+
+  pub head-capacity : capacityOf axes (putHead axes w cs es cap) ≡ cap
+  unfolding putHead corners
+  head-capacity = getD-set-same (putFloats es corners axes) (4 * axes) cap 0 (omega (arith, room, extents-long))
