@@ -6,6 +6,7 @@ use Prim.Native.Nat.{ℕ, zero, suc, _+_, _<_, _≤_}
 use native.Mathlib.Omega.{arith}
 use lib.ListN.{length, getD, set, length-set}
 use lib.Seq.{getD-set-same, getD-set-other, lt-length-set}
+use Rattle.model.specs.Soundness.{All}
 use Rattle.pool.specs.Lists.{is, occ, lastOr, Chain}
 use Rattle.pool.proofs.Lists.{by-eq, is-same, is-other, is-eq}
 
@@ -46,7 +47,7 @@ no-zero (p ∷ l) x h c = omega (arith, is-other 0 p (λ e. c .1 (sym e)), no-ze
 pub last-nonzero : (q : ℕ) (l x : List ℕ) (h : ℕ) → Chain x h (q ∷ l) → lastOr q l ≢ 0
 last-nonzero q l x h c e = occ-last q l (ap (λ v. occ v (q ∷ l)) e ∙ no-zero (q ∷ l) x h c)
 
--- ---- a list in which nothing is twice is no longer than there are words
+-- ---- a list of numbers below m in which nothing is twice is no longer than m; so a chain is no longer than there are words
 total : ℕ → List ℕ → ℕ
 total zero l = 0
 total (suc m) l = occ m l + total m l
@@ -75,9 +76,16 @@ unfolding total-is
 total-one zero q h = absurd (omega arith)
 total-one (suc m) q h = by-eq m q (λ e. omega (arith, is-eq m q e)) (λ e. omega (arith, total-one m q (omega arith)))
 
-length-total : (l x : List ℕ) (h : ℕ) → Chain x h l → length l ≤ total (length x) l
-length-total [] x h c = omega (arith, total-nil (length x))
-length-total (q ∷ l) x h c = omega (arith, total-cons (length x) q l, total-one (length x) q (c .2), length-total l x (getD x q 0) (c .3))
+length-total : (m : ℕ) (l : List ℕ) → All (λ p. p < m) l → length l ≤ total m l
+length-total m [] a = omega (arith, total-nil m)
+length-total m (q ∷ l) a = omega (arith, total-cons m q l, total-one m q (a .0), length-total m l (a .1))
+
+pub once-short : (m : ℕ) (l : List ℕ) → All (λ p. p < m) l → ((p : ℕ) → occ p l ≤ 1) → length l ≤ m
+once-short m l a d = omega (arith, length-total m l a, total-le m l d)
+
+chain-below : (l x : List ℕ) (h : ℕ) → Chain x h l → All (λ p. p < length x) l
+chain-below [] x h c = tt
+chain-below (q ∷ l) x h c = (c .2, chain-below l x (getD x q 0) (c .3))
 
 pub chain-short : (l x : List ℕ) (h : ℕ) → Chain x h l → ((p : ℕ) → occ p l ≤ 1) → length l ≤ length x
-chain-short l x h c d = omega (arith, length-total l x h c, total-le (length x) l d)
+chain-short l x h c d = once-short (length x) l (chain-below l x h c) d

@@ -36,7 +36,19 @@ pub fn delete(
         return 2;
     }
     let most = capacity(head);
-    delete_within(nodes, links, 1, bounds, 32, most, at, mark, points, p, spot.before);
+    delete_within(
+        nodes,
+        links,
+        1,
+        bounds,
+        32,
+        most,
+        at,
+        mark,
+        points,
+        p,
+        spot.before,
+    );
     give_place(links, p);
     0
 }

@@ -13,7 +13,7 @@ use Rattle.words.specs.Words.{pairs}
 use Rattle.trees.specs.Points.{floats}
 use Rattle.trees.specs.Pieces.{Pieces, Fits, boundaryOf, Decides}
 
-both : (t u : Bool) → t && u ≡ true → (t ≡ true) × (u ≡ true)
+pub both : (t u : Bool) → t && u ≡ true → (t ≡ true) × (u ≡ true)
 both true u h = (refl, h)
 both false u h = absurd (subst T (sym h) tt)
 

@@ -1,5 +1,7 @@
+pub mod Areas
 pub mod Bulks
 pub mod Changes
+pub mod Checks
 pub mod Collects
 pub mod Creates
 pub mod Deletes
@@ -8,9 +10,11 @@ pub mod Finds
 pub mod Heads
 pub mod Held
 pub mod Inserts
+pub mod Marks
 pub mod Puts
 pub mod Removals
 pub mod Seeks
+pub mod Soundness
 pub mod Tables
 pub mod Turns
 pub mod Walks

@@ -1,0 +1,318 @@
+-- The soundness test of one node and all below it: yes exactly when the words hold a tree there whose places and groups were not met before, with counts that match,
+-- no leaf too full, no divided node too empty, and every point within its bounds. Over any number of ways. Assumes nothing.
+use mathlib.Core.Path.{_≡_, refl, ap, ap₂, sym, _∙_, subst}
+use mathlib.Core.Logic.{_≢_, _⊎_, inl, inr}
+use mathlib.Core.Bool.{Bool, true, false, _&&_}
+use mathlib.Core.List.{List, [], _∷_}
+use Prim.Native.Nat.{ℕ, zero, suc, _+_, _-_, _*_, _<_, _≤_}
+use native.Mathlib.Omega.{arith}
+use native.Mathlib.Numerals.{add-one, sub-one}
+use lib.Dec.{T, eqb}
+use borrow.Author.Tests.{eq-eqb, eqb-true}
+use lib.ListN.{length, getD}
+use Rattle.model.specs.Boxes.{Side, part}
+use Rattle.model.specs.Trees.{Point}
+use Rattle.model.specs.Soundness.{All, Each}
+use Rattle.pool.specs.Lists.{occ, sumOf, lastOr, Chain, is}
+use Rattle.pool.specs.Trees.{leaf, branch, PTree, flat, none, groupsAt, placesAt, size}
+use Rattle.pool.specs.Worlds.{RepLeaf, Rep}
+use Rattle.pool.specs.Writes.{kid}
+use Rattle.pool.proofs.Lists.{is-same}
+use Rattle.pool.proofs.Frames.{rep-flat}
+use Rattle.pool.proofs.Read.{rep-unique}
+use Rattle.pool.proofs.Trees.{groups-flat, places-flat}
+use Rattle.trees.proofs.Areas.{Bound, lies, narrowed}
+use Rattle.trees.proofs.Heads.{both}
+use Rattle.trees.proofs.Marks.{Low, Marked, Fresh, marked-none, marked-then, marked-as, Claims, claims-mark, Linked, Listed, Walks}
+
+-- a count in words is how many places the tree has
+pub rep-size : (d ways : ℕ) (n x : List ℕ) (i : ℕ) (t : PTree d) → Rep d ways n x i t → getD n (4 * i + 3) 0 ≡ size d t
+rep-size zero ways n x i l r = r .4
+rep-size (suc d) ways n x i (leaf l) r = r .4
+rep-size (suc d) ways n x i (branch k ts) r = r .3
+
+-- the counts of the children from number c on, so many of them
+unfoldable pub counts : (ways : ℕ) → List ℕ → ℕ → (c some : ℕ) → ℕ
+counts ways n k c zero = 0
+counts ways n k c (suc some) = getD n (4 * kid ways k c + 3) 0 + counts ways n k (suc c) some
+
+module _ (ways cap : ℕ) (pt : ℕ → Point) (n x : List ℕ) where
+  -- ---- what is asked of a tree
+  -- a place within the links whose point lies within the bounds
+  abbrev pub Tested : List Bound → ℕ → Type 0
+  Tested a p = T (lies a (pt p .at))
+
+  abbrev pub Proper : (d : ℕ) → List Side → List Bound → PTree d → Type 0
+  Proper zero b a l = All (Tested a) l
+  Proper (suc d) b a (leaf l) = (length l ≤ cap) × All (Tested a) l
+  Proper (suc d) b a (branch k ts) = (cap < sumOf (size d) ts) × Each (λ i t. Proper d (part b i) (narrowed b a i) t) 0 ts
+
+  -- the marks have a byte for each place, and for each group that there is room for
+  pub record Sized (m u : List ℕ) : Type 0 where
+    pub places : length m ≡ length x
+    pub inside : (g : ℕ) → g < length u → 4 * kid ways g ways ≤ length n
+    pub few : (g : ℕ) → 4 * kid ways g ways ≤ length n → g < length u
+    pub low-m : Low m
+    pub low-u : Low u
+
+  sized-after : (m u m' u' : List ℕ) (f h : ℕ → ℕ) → Sized m u → Marked m m' f → Marked u u' h → Sized m' u'
+  sized-after m u m' u' f h z a b = record {
+    places = a .long ∙ z .places;
+    inside = λ g l. z .inside g (omega (arith, l, b .long));
+    few = λ g l. omega (arith, z .few g l, b .long);
+    low-m = a .low;
+    low-u = b .low;
+  }
+
+  pub record Found (d : ℕ) (b : List Side) (a : List Bound) (i : ℕ) (m u m' u' : List ℕ) : Type 0 where
+    pub tree : PTree d
+    pub rep : Rep d ways n x i tree
+    pub proper : Proper d b a tree
+    pub places : Marked m m' (λ p. placesAt d p tree)
+    pub groups : Marked u u' (λ g. groupsAt d g tree)
+
+  -- the answer r of the test at node i, which is there
+  pub record Checked (d : ℕ) (b : List Side) (a : List Bound) (i : ℕ) (m u m' u' : List ℕ) (r : Bool) : Type 0 where
+    pub sure : r ≡ true → Found d b a i m u m' u'
+    pub only : (t : PTree d) → Rep d ways n x i t → Proper d b a t → Fresh m (λ p. placesAt d p t) → Fresh u (λ g. groupsAt d g t) → r ≡ true
+
+  unfoldable pub Checks : (d : ℕ) → List Side → List Bound → ℕ → (m u m' u' : List ℕ) → Bool → Type 0
+  Checks d b a i m u m' u' r = Sized m u → 4 * i + 3 < length n → Checked d b a i m u m' u' r
+
+  no-true : {C : Type 0} → false ≡ true → C
+  no-true e = absurd (subst T (sym e) tt)
+
+  -- ---- an undivided node
+  abbrev pub after : ℕ → ℕ
+  after p = getD x p 0
+
+  abbrev pub listed : List Bound → ℕ → Type 0
+  listed a p = (p < length x) × Tested a p
+
+  -- no step is left, and the last place is the one that the node names
+  abbrev pub ends : ℕ → ℕ → ℕ → Bool
+  ends last rest b = eqb rest 0 && eqb b last
+
+  linked-chain : (a : List Bound) (h : ℕ) (l : List ℕ) → Linked after (listed a) h l → Chain x h l × All (Tested a) l
+  linked-chain a h [] k = (k, tt)
+  linked-chain a h (p ∷ l) k = let q = linked-chain a (after p) l (k .3) in ((k .0, k .1, k .2 .0, q .0), (k .2 .1, q .1))
+
+  chain-linked : (a : List Bound) (h : ℕ) (l : List ℕ) → Chain x h l → All (Tested a) l → Linked after (listed a) h l
+  chain-linked a h [] k t = k
+  chain-linked a h (p ∷ l) k t = (k .0, k .1, (k .2, t .0), chain-linked a (after p) l (k .3) (t .1))
+
+  proper-flat : (d : ℕ) (b : List Side) (a : List Bound) (l : List ℕ) → ((d ≡ 0) ⊎ (length l ≤ cap)) → All (Tested a) l → Proper d b a (flat d l)
+  proper-flat zero b a l h t = t
+  proper-flat (suc d) b a l (inl e) t = absurd (omega arith)
+  proper-flat (suc d) b a l (inr h) t = (h, t)
+
+  pub check-list : (d : ℕ) (b : List Side) (a : List Bound) (i : ℕ) (m u m' : List ℕ) (r : Bool) (g v h last : ℕ) → g ≡ getD n (4 * i) 0 → v ≡ getD n (4 * i + 3) 0 → g ≡ 0 → ((d ≡ 0) ⊎ (v ≤ cap)) → h ≡ getD n (4 * i + 1) 0 → last ≡ getD n (4 * i + 2) 0
+      → Walks after (listed a) (ends last) m h 0 v m' r → Checks d b a i m u m' u r
+  unfolding Checks
+  check-list d b a i m u m' r g v h last eg ev z few eh el w sz room = record {
+    sure = λ t. found (w .sure t (sz .low-m));
+    only = only d few;
+  }
+    where
+      long : (l : List ℕ) → v ≡ length l → ((d ≡ 0) ⊎ (length l ≤ cap))
+      long l e = elim few [ inl q ↦ inl q | inr q ↦ inr (subst (λ (k : ℕ). k ≤ cap) e q) ]
+
+      found : Listed after (listed a) (ends last) m h 0 v m' → Found d b a i m u m' u
+      found q =
+          let e = both (eqb (q .rest) 0) (eqb (lastOr 0 (q .list)) last) (q .ends) in
+          let s : v ≡ length (q .list) = omega (arith, q .steps, eqb-true (q .rest) 0 (e .0)) in
+          let c = linked-chain a h (q .list) (q .linked) in
+          record {
+            tree = flat d (q .list);
+            rep = rep-flat d ways n x i (q .list) (room, sym eg ∙ z, subst (λ (k : ℕ). Chain x k (q .list)) eh (c .0), sym el ∙ sym (eqb-true (lastOr 0 (q .list)) last (e .1)), sym ev ∙ s);
+            proper = proper-flat d b a (q .list) (long (q .list) s) (c .1);
+            places = marked-as m m' _ _ (q .marked) (λ p. places-flat d p (q .list));
+            groups = marked-as u u _ _ (marked-none u (sz .low-u)) (λ k. groups-flat d k (q .list));
+          }
+
+      walked : (l : List ℕ) → RepLeaf n x i l → All (Tested a) l → Fresh m (λ p. occ p l) → r ≡ true
+      walked l q t f = w .only (sz .low-m) l 0 (chain-linked a h l (subst (λ (k : ℕ). Chain x k l) (sym eh) (q .2)) t) (omega (arith, ev, q .4))
+          (eq-eqb (lastOr 0 l) last (sym (el ∙ q .3))) f
+
+      only : (d : ℕ) → ((d ≡ 0) ⊎ (v ≤ cap)) → (t : PTree d) → Rep d ways n x i t → Proper d b a t → Fresh m (λ p. placesAt d p t) → Fresh u (λ g. groupsAt d g t) → r ≡ true
+      only zero few l q p f k = walked l q p f
+      only (suc d) few (leaf l) q p f k = walked l q (p .1) f
+      only (suc d) few (branch j ts) q p f k = absurd (q .2 (sym (q .1) ∙ sym eg ∙ z))
+
+  -- ---- no tree
+  pub check-many : (d : ℕ) (b : List Side) (a : List Bound) (i : ℕ) (m u m' u' : List ℕ) (g v : ℕ) → g ≡ getD n (4 * i) 0 → v ≡ getD n (4 * i + 3) 0 → g ≡ 0 → d ≢ 0 → cap < v → Checks d b a i m u m' u' false
+  unfolding Checks
+  check-many d b a i m u m' u' g v eg ev z nd h sz room = record { sure = λ t. no-true t; only = only d nd }
+    where
+      only : (d : ℕ) → d ≢ 0 → (t : PTree d) → Rep d ways n x i t → Proper d b a t → Fresh m (λ p. placesAt d p t) → Fresh u (λ g. groupsAt d g t) → false ≡ true
+      only zero nd l q p f k = absurd (nd refl)
+      only (suc d) nd (leaf l) q p f k = absurd (omega (arith, h, ev, q .4, p .0))
+      only (suc d) nd (branch j ts) q p f k = absurd (q .2 (sym (q .1) ∙ sym eg ∙ z))
+
+  pub check-deep : (d : ℕ) (b : List Side) (a : List Bound) (i : ℕ) (m u m' u' : List ℕ) (g : ℕ) → g ≡ getD n (4 * i) 0 → g ≢ 0 → d ≡ 0 → Checks d b a i m u m' u' false
+  unfolding Checks
+  check-deep d b a i m u m' u' g eg nz e sz room = record { sure = λ t. no-true t; only = only d e }
+    where
+      only : (d : ℕ) → d ≡ 0 → (t : PTree d) → Rep d ways n x i t → Proper d b a t → Fresh m (λ p. placesAt d p t) → Fresh u (λ g. groupsAt d g t) → false ≡ true
+      only zero e l q p f k = absurd (nz (eg ∙ q .1))
+      only (suc d) e t q p f k = absurd (omega arith)
+
+  rep-room : (d i : ℕ) (t : PTree d) → Rep d ways n x i t → 4 * i + 3 < length n
+  rep-room zero i l q = q .0
+  rep-room (suc d) i (leaf l) q = q .0
+  rep-room (suc d) i (branch k ts) q = q .0
+
+  kid-room : (d i j : ℕ) (ts : List (PTree d)) → 0 < ways → Rep (suc d) ways n x i (branch j ts) → 4 * kid ways j ways ≤ length n
+  kid-room d i j ts lw q = omega (arith, lw, rep-room d (kid ways j (ways - 1)) (getD ts (ways - 1) (none d)) (q .5 (ways - 1) (omega (arith, lw))))
+
+  -- a divided node for which one of these fails: more points than capacity, a group that is met for the first time
+  divided-not : (d : ℕ) (b : List Side) (a : List Bound) (i : ℕ) (m u m' u' : List ℕ) (g v : ℕ) → g ≡ getD n (4 * i) 0 → v ≡ getD n (4 * i + 3) 0 → g ≢ 0 → 0 < ways → (cap < v → 4 * kid ways g ways ≤ length n → getD u g 0 ≡ 0 → ⊥) → Checks d b a i m u m' u' false
+  unfolding Checks
+  divided-not d b a i m u m' u' g v eg ev nz lw nay sz room = record { sure = λ t. no-true t; only = only d }
+    where
+      only : (d : ℕ) → (t : PTree d) → Rep d ways n x i t → Proper d b a t → Fresh m (λ p. placesAt d p t) → Fresh u (λ g. groupsAt d g t) → false ≡ true
+      only zero l q p f k = absurd (nz (eg ∙ q .1))
+      only (suc d) (leaf l) q p f k = absurd (nz (eg ∙ q .1))
+      only (suc d) (branch j ts) q p f k =
+          let e : g ≡ j = eg ∙ q .1 in
+          absurd (nay (omega (arith, ev, q .3, p .0)) (omega (arith, kid-room d i j ts lw q, ap (λ (h : ℕ). ways * h) e)) (omega (arith, k g, ap (λ (h : ℕ). is g h) e, is-same g)))
+
+  pub check-few : (d : ℕ) (b : List Side) (a : List Bound) (i : ℕ) (m u m' u' : List ℕ) (g v : ℕ) → 0 < ways → g ≡ getD n (4 * i) 0 → v ≡ getD n (4 * i + 3) 0 → g ≢ 0 → v ≤ cap → Checks d b a i m u m' u' false
+  check-few d b a i m u m' u' g v lw eg ev nz h = divided-not d b a i m u m' u' g v eg ev nz lw (λ l r f. absurd (omega arith))
+
+  pub check-met : (d : ℕ) (b : List Side) (a : List Bound) (i : ℕ) (m u u1 m' u' : List ℕ) (g v : ℕ) → 0 < ways → g ≡ getD n (4 * i) 0 → v ≡ getD n (4 * i + 3) 0 → g ≢ 0 → Claims u u1 g false → Checks d b a i m u m' u' false
+  unfolding Checks
+  check-met d b a i m u u1 m' u' g v lw eg ev nz c sz room = divided-not d b a i m u m' u' g v eg ev nz lw (λ l r f. no-true (c .only (sz .few g r) f)) sz room
+
+  -- ---- the children of group k, from number c on
+  abbrev pub Row : (d k c : ℕ) → List (PTree d) → Type 0
+  Row d k c [] = c ≡ ways
+  Row d k c (t ∷ ts) = (c < ways) × Rep d ways n x (kid ways k c) t × Row d k (suc c) ts
+
+  row-length : (d k c : ℕ) (ts : List (PTree d)) → Row d k c ts → c + length ts ≡ ways
+  row-length d k c [] q = omega (arith, q)
+  row-length d k c (t ∷ ts) q = omega (arith, row-length d k (suc c) ts (q .2))
+
+  row-at : (d k c : ℕ) (ts : List (PTree d)) → Row d k c ts → (e : ℕ) → c + e < ways → Rep d ways n x (kid ways k (c + e)) (getD ts e (none d))
+  row-at d k c [] q e l = absurd (omega (arith, q, l))
+  row-at d k c (t ∷ ts) q zero l = subst (λ (j : ℕ). Rep d ways n x (kid ways k j) t) {x = c} {y = c + 0} (omega arith) (q .1)
+  row-at d k c (t ∷ ts) q (suc e) l = subst (λ (j : ℕ). Rep d ways n x (kid ways k j) (getD ts e (none d))) {x = suc c + e} {y = c + suc e} (omega arith) (row-at d k (suc c) ts (q .2) e (omega (arith, l)))
+
+  at-row : (d k c : ℕ) (ts : List (PTree d)) → c + length ts ≡ ways → ((e : ℕ) → c + e < ways → Rep d ways n x (kid ways k (c + e)) (getD ts e (none d))) → Row d k c ts
+  at-row d k c [] e f = omega (arith, e)
+  at-row d k c (t ∷ ts) e f = (
+    omega (arith, e),
+    subst (λ (j : ℕ). Rep d ways n x (kid ways k j) t) {x = c + 0} {y = c} (omega arith) (f 0 (omega (arith, e))),
+    at-row d k (suc c) ts (omega (arith, e)) (λ h l. subst (λ (j : ℕ). Rep d ways n x (kid ways k j) (getD ts h (none d))) {x = c + suc h} {y = suc c + h} (omega arith) (f (suc h) (omega (arith, l)))),
+  )
+
+  row-all : (d k : ℕ) (ts : List (PTree d)) → Row d k 0 ts → (c : ℕ) → c < ways → Rep d ways n x (kid ways k c) (getD ts c (none d))
+  row-all d k ts q c l = subst (λ (j : ℕ). Rep d ways n x (kid ways k j) (getD ts c (none d))) {x = 0 + c} {y = c} (omega arith) (row-at d k 0 ts q c (omega (arith, l)))
+
+  all-row : (d k : ℕ) (ts : List (PTree d)) → length ts ≡ ways → ((c : ℕ) → c < ways → Rep d ways n x (kid ways k c) (getD ts c (none d))) → Row d k 0 ts
+  all-row d k ts e f = at-row d k 0 ts (omega (arith, e)) (λ c l. subst (λ (j : ℕ). Rep d ways n x (kid ways k j) (getD ts c (none d))) {x = c} {y = 0 + c} (omega arith) (f c (omega (arith, l))))
+
+  row-counts : (d k c : ℕ) (ts : List (PTree d)) → Row d k c ts → counts ways n k c (length ts) ≡ sumOf (size d) ts
+  unfolding counts
+  row-counts d k c [] q = refl
+  row-counts d k c (t ∷ ts) q = omega (arith, rep-size d ways n x (kid ways k c) t (q .1), row-counts d k (suc c) ts (q .2))
+
+  module _ (d : ℕ) (b : List Side) (a : List Bound) (k : ℕ) where
+    abbrev pub Held : ℕ → List (PTree d) → Type 0
+    Held c ts = Each (λ i t. Proper d (part b i) (narrowed b a i) t) c ts
+
+    pub record Rowed (c : ℕ) (fin : Bool) (m u m' u' : List ℕ) : Type 0 where
+      pub trees : List (PTree d)
+      pub row : Row d k c trees
+      pub proper : Held c trees
+      pub places : Marked m m' (λ p. sumOf (placesAt d p) trees)
+      pub groups : Marked u u' (λ g. sumOf (groupsAt d g) trees)
+      pub last : fin ≡ true
+
+    -- the answer r of the test of these children; `fin` is what it says after the last
+    pub record Kids (c : ℕ) (fin : Bool) (m u m' u' : List ℕ) (r : Bool) : Type 0 where
+      pub sure : r ≡ true → Rowed c fin m u m' u'
+      pub only : (ts : List (PTree d)) → Row d k c ts → Held c ts → Fresh m (λ p. sumOf (placesAt d p) ts) → Fresh u (λ g. sumOf (groupsAt d g) ts) → fin ≡ true → r ≡ true
+
+    unfoldable pub Rows : (c : ℕ) → Bool → (m u m' u' : List ℕ) → Bool → Type 0
+    Rows c fin m u m' u' r = Sized m u → 4 * kid ways k ways ≤ length n → Kids c fin m u m' u' r
+
+    pub rows-end : (c : ℕ) (m u : List ℕ) (r : Bool) → c ≡ ways → Rows c r m u m u r
+    unfolding Rows
+    rows-end c m u r e sz room = record {
+      sure = λ t. record { trees = []; row = e; proper = tt; places = marked-none m (sz .low-m); groups = marked-none u (sz .low-u); last = t };
+      only = λ ts q p f g t. t;
+    }
+
+    pub rows-not : (c j : ℕ) (fin : Bool) (b' : List Side) (a' : List Bound) (m u m1 u1 m' u' : List ℕ) → c < ways → j ≡ kid ways k c → b' ≡ part b c → a' ≡ narrowed b a c → Checks d b' a' j m u m1 u1 false → Rows c fin m u m' u' false
+    unfolding Rows Checks
+    rows-not c j fin b' a' m u m1 u1 m' u' lc ej eb ea w sz room = record { sure = λ t. no-true t; only = only }
+      where
+        only : (ts : List (PTree d)) → Row d k c ts → Held c ts → Fresh m (λ p. sumOf (placesAt d p) ts) → Fresh u (λ g. sumOf (groupsAt d g) ts) → fin ≡ true → false ≡ true
+        only [] q p f g t = absurd (omega (arith, lc, q))
+        only (s ∷ ts) q p f g t = w sz (omega (arith, ej, lc, room)) .only s (subst (λ (i : ℕ). Rep d ways n x i s) (sym ej) (q .1))
+            (subst (λ (v : List Side). Proper d v a' s) (sym eb) (subst (λ (v : List Bound). Proper d (part b c) v s) (sym ea) (p .0)))
+            (λ i. omega (arith, f i)) (λ i. omega (arith, g i))
+
+    pub rows-step : (c j c' : ℕ) (fin : Bool) (b' : List Side) (a' : List Bound) (m u m1 u1 m' u' : List ℕ) (r : Bool) → c < ways → j ≡ kid ways k c → b' ≡ part b c → a' ≡ narrowed b a c → c' ≡ suc c
+        → Checks d b' a' j m u m1 u1 true → Rows c' fin m1 u1 m' u' r → Rows c fin m u m' u' r
+    unfolding Rows Checks
+    rows-step c j c' fin b' a' m u m1 u1 m' u' r lc ej eb ea ec w v sz room =
+        step (w sz (omega (arith, ej, lc, room)) .sure refl)
+      where
+        step : Found d b' a' j m u m1 u1 → Kids c fin m u m' u' r
+        step q =
+            let rep : Rep d ways n x (kid ways k c) (q .tree) = subst (λ (i : ℕ). Rep d ways n x i (q .tree)) ej (q .rep) in
+            let z = subst (λ (i : ℕ). Kids i fin m1 u1 m' u' r) ec (v (sized-after m u m1 u1 _ _ sz (q .places) (q .groups)) room) in
+            record {
+              sure = λ t. let y = z .sure t in record {
+                trees = q .tree ∷ y .trees;
+                row = (lc, rep, y .row);
+                proper = (subst (λ (i : List Side). Proper d i (narrowed b a c) (q .tree)) eb (subst (λ (i : List Bound). Proper d b' i (q .tree)) ea (q .proper)), y .proper);
+                places = marked-then m m1 m' _ _ _ (q .places) (y .places) (λ p. refl);
+                groups = marked-then u u1 u' _ _ _ (q .groups) (y .groups) (λ p. refl);
+                last = y .last;
+              };
+              only = only (z .only) rep;
+            }
+          where
+            only : ((ts : List (PTree d)) → Row d k (suc c) ts → Held (suc c) ts → Fresh m1 (λ p. sumOf (placesAt d p) ts) → Fresh u1 (λ g. sumOf (groupsAt d g) ts) → fin ≡ true → r ≡ true) → Rep d ways n x (kid ways k c) (q .tree)
+                → (ts : List (PTree d)) → Row d k c ts → Held c ts → Fresh m (λ p. sumOf (placesAt d p) ts) → Fresh u (λ g. sumOf (groupsAt d g) ts) → fin ≡ true → r ≡ true
+            only go rep [] y p f g t = absurd (omega (arith, lc, y))
+            only go rep (s ∷ ts) y p f g t =
+                let e : q .tree ≡ s = rep-unique d ways n x (kid ways k c) (q .tree) s rep (λ i. omega (arith, q .places .sums i, q .places .low i)) (y .1) (λ i. omega (arith, f i)) in
+                go ts (y .2) (p .1) (λ i. omega (arith, f i, q .places .sums i, ap (placesAt d i) e)) (λ i. omega (arith, g i, q .groups .sums i, ap (groupsAt d i) e)) t
+
+  -- ---- the divided node
+  pub check-kids : (d : ℕ) (b : List Side) (a : List Bound) (i : ℕ) (m u u1 m' u' : List ℕ) (g v : ℕ) (fin r : Bool) → 0 < ways → g ≡ getD n (4 * i) 0 → v ≡ getD n (4 * i + 3) 0 → g ≢ 0 → d ≢ 0 → cap < v → Claims u u1 g true
+      → fin ≡ eqb (counts ways n g 0 ways) v → Rows (d - 1) b a g 0 fin m u1 m' u' r → Checks d b a i m u m' u' r
+  unfolding Checks Rows
+  check-kids zero b a i m u u1 m' u' g v fin r lw eg ev nz nd h c ef w sz room = absurd (nd refl)
+  check-kids (suc d) b a i m u u1 m' u' g v fin r lw eg ev nz nd h c ef w sz room =
+      by (claims-mark u u1 g (sz .low-u) c)
+    where
+      by : Marked u u1 (λ q. is q g) → Checked (suc d) b a i m u m' u' r
+      by mk = record { sure = λ t. found (z .sure t); only = only }
+        where
+          z : Kids d b a g 0 fin m u1 m' u' r
+          z = subst (λ (e : ℕ). Sized m u1 → 4 * kid ways g ways ≤ length n → Kids e b a g 0 fin m u1 m' u' r) (sub-one (suc d)) w (sized-after m u m u1 _ _ sz (marked-none m (sz .low-m)) mk) (sz .inside g (c .sure refl .0))
+
+          found : Rowed d b a g 0 fin m u1 m' u' → Found (suc d) b a i m u m' u'
+          found y =
+              let e : counts ways n g 0 ways ≡ v = eqb-true (counts ways n g 0 ways) v (sym ef ∙ y .last) in
+              let l : length (y .trees) ≡ ways = omega (arith, row-length d g 0 (y .trees) (y .row)) in
+              let s : sumOf (size d) (y .trees) ≡ v = sym (row-counts d g 0 (y .trees) (y .row)) ∙ ap (counts ways n g 0) l ∙ e in
+              record {
+                tree = branch g (y .trees);
+                rep = (room, sym eg, nz, sym ev ∙ sym s, l, row-all d g (y .trees) (y .row));
+                proper = (omega (arith, h, s), y .proper);
+                places = y .places;
+                groups = marked-then u u1 u' _ _ _ mk (y .groups) (λ p. refl);
+              }
+
+          only : (t : PTree (suc d)) → Rep (suc d) ways n x i t → Proper (suc d) b a t → Fresh m (λ p. placesAt (suc d) p t) → Fresh u (λ g. groupsAt (suc d) g t) → r ≡ true
+          only (leaf l) q p f k = absurd (nz (eg ∙ q .1))
+          only (branch j ts) q p f k =
+              let e : g ≡ j = eg ∙ q .1 in
+              let row : Row d g 0 ts = all-row d g ts (q .4) (λ y l. subst (λ (o : ℕ). Rep d ways n x (kid ways o y) (getD ts y (none d))) (sym e) (q .5 y l)) in
+              z .only ts row (p .1) f (λ o. omega (arith, k o, mk .sums o, ap (is o) e)) (ef ∙ eq-eqb (counts ways n g 0 ways) v (ap (counts ways n g 0) (sym (q .4)) ∙ row-counts d g 0 ts row ∙ sym (q .3) ∙ sym ev))
