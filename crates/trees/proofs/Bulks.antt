@@ -1,13 +1,14 @@
 -- A bulk as a loop over insertions, one point at a time. Over any kind of tree. Assumes nothing.
-use mathlib.Core.Path.{_≡_, refl, ap, sym, _∙_, subst}
+use mathlib.Core.Path.{_≡_, refl, ap, ap₂, sym, _∙_, subst}
 use mathlib.Core.Logic.{_≢_}
-use mathlib.Core.Bool.{Bool, true, false, cond}
+use mathlib.Core.Bool.{Bool, true, false}
 use mathlib.Core.List.{List, [], _∷_}
-use Prim.Native.Nat.{ℕ, zero, suc, _+_, _<_, _≤_}
+use Prim.Native.Nat.{ℕ, zero, suc, _+_, _-_, _<_, _≤_}
 use native.Mathlib.Omega.{arith}
-use lib.Dec.{eqb, leb, ltb}
+use lib.Dec.{leb, ltb}
+use native.Mathlib.Numerals.{add-one}
+use lib.Ieee.{Float}
 use lib.ListN.{drop}
-use borrow.Author.Tests.{eq-eqb, ne-eqb}
 use Rattle.model.specs.Boxes.{inside}
 use Rattle.model.specs.Calls.{Bulk, Insert, Kind, Outcome, Plan, Reply, bulkCall, call, done, full, give, noNodes, number, outside, refuse, step, tree, with-root}
 use Rattle.model.specs.Trees.{Point, count, nodes}
@@ -74,25 +75,19 @@ module _ (k : Kind) (s : Pieces) (all : List Point) where
   unfolding Bulking
   bulking-start a y = record { plan = a; says = y; same = refl; none = λ e. refl }
 
-  -- one more where the reply is 0
-  more : (n r : ℕ) → r ≡ 0 → n + cond (eqb r 0) 1 0 ≡ suc n
-  more n r e = ap (λ (t : Bool). n + cond t 1 0) (eq-eqb r 0 e) ∙ omega arith
-
-  no-more : (n r : ℕ) → r ≢ 0 → n + cond (eqb r 0) 1 0 ≡ n
-  no-more n r e = ap (λ (t : Bool). n + cond t 1 0) (ne-eqb r 0 e) ∙ omega arith
-
-  pub bulking-next : (c c' : Pieces) (n r : ℕ) (p : Point) (ps : List Point) → Bulking c n (p ∷ ps) → DoesHeld k (Insert p) c c' r 0 → r ≤ 1 → Bulking c' (n + cond (eqb r 0) 1 0) ps
+  -- a reply of 0 is one point more, a reply of 1 is none
+  bulking-next : (c c' : Pieces) (n r : ℕ) (p : Point) (ps : List Point) → Bulking c n (p ∷ ps) → DoesHeld k (Insert p) c c' r 0 → r ≤ 1 → Bulking c' (n + (1 - r)) ps
   unfolding Bulking DoesHeld
   bulking-next c c' n r p ps bk ins le a y = go (bk a y)
     where
-      go : From a c n (p ∷ ps) → From a c' (n + cond (eqb r 0) 1 0) ps
+      go : From a c n (p ∷ ps) → From a c' (n + (1 - r)) ps
       go f = by (turned k (f .plan) n p ps c c' r (ins (f .plan) (f .says)))
         where
-          by : Turn k (f .plan) n p ps c c' r → From a c' (n + cond (eqb r 0) 1 0) ps
+          by : Turn k (f .plan) n p ps c c' r → From a c' (n + (1 - r)) ps
           by (past e k1 k2) =
-              subst (λ (j : ℕ). From a c' j ps) (sym (no-more n r (λ z. absurd (omega (arith, e, z)))))
+              subst (λ (j : ℕ). From a c' j ps) {x = n} {y = n + (1 - r)} (omega (arith, e))
               (record { plan = f .plan; says = subst (λ (u : Pieces). Says k u (tree (f .plan))) (sym k1) (f .says); same = f .same ∙ k2; none = λ z. k1 ∙ f .none z })
-          by (kept u e k1 k2) = subst (λ (j : ℕ). From a c' j ps) (sym (more n r e)) (record { plan = u; says = k1; same = f .same ∙ k2; none = λ z. absurd (omega (arith, z)) })
+          by (kept u e k1 k2) = subst (λ (j : ℕ). From a c' j ps) {x = suc n} {y = n + (1 - r)} (omega (arith, e)) (record { plan = u; says = k1; same = f .same ∙ k2; none = λ z. absurd (omega (arith, z)) })
           by (stop rp e k1 k2 k3) = absurd (omega (arith, le, k1))
 
   -- ---- the two ways out
@@ -104,14 +99,14 @@ module _ (k : Kind) (s : Pieces) (all : List Point) where
   unfolding bulkCall
   end a n = refl
 
-  pub bulking-end : (c : Pieces) (n : ℕ) (rest : List Point) → Bulking c n rest → rest ≡ [] → DoesHeld k (Bulk all) s c 0 n
+  bulking-end : (c : Pieces) (n : ℕ) (rest : List Point) → Bulking c n rest → rest ≡ [] → DoesHeld k (Bulk all) s c 0 n
   unfolding Bulking DoesHeld number
   bulking-end c n rest bk e a y =
       let f = bk a y in
       subst (λ (o : Outcome). Gives k o s c 0 n) (sym (outcome a ∙ f .same ∙ ap (bulkCall k (f .plan) n) e ∙ end (f .plan) n))
       (record { reply = refl; figure = refl; after = f .says; refused = λ ne z. absurd (ne refl) })
 
-  pub bulking-stop : (c c' : Pieces) (n r : ℕ) (p : Point) (ps : List Point) → Bulking c n (p ∷ ps) → DoesHeld k (Insert p) c c' r 0 → 1 < r → DoesHeld k (Bulk all) s c' r n
+  bulking-stop : (c c' : Pieces) (n r : ℕ) (p : Point) (ps : List Point) → Bulking c n (p ∷ ps) → DoesHeld k (Insert p) c c' r 0 → 1 < r → DoesHeld k (Bulk all) s c' r n
   unfolding Bulking DoesHeld
   bulking-stop c c' n r p ps bk ins more a y = go (bk a y)
     where
@@ -125,15 +120,35 @@ module _ (k : Kind) (s : Pieces) (all : List Point) where
               (record { reply = e; figure = refl; after = subst (λ (u : Pieces). Says k u (tree (f .plan))) (sym k2) (f .says); refused = λ ne z. k2 ∙ f .none z })
 
 -- ---- the points that are lent, one after another
-pub left-next : {K : Type 0} (i m : ℕ) (f : ℕ → K) → i < m → drop i (upTo m f) ≡ f i ∷ drop (suc i) (upTo m f)
+left-next : {K : Type 0} (i m : ℕ) (f : ℕ → K) → i < m → drop i (upTo m f) ≡ f i ∷ drop (suc i) (upTo m f)
 unfolding upTo
 left-next i zero f h = absurd (omega arith)
 left-next zero (suc m) f h = refl
 left-next (suc i) (suc m) f h = left-next i m (λ c. f (suc c)) (omega (arith, h))
 
-pub left-none : {K : Type 0} (i m : ℕ) (f : ℕ → K) → m ≤ i → drop i (upTo m f) ≡ []
+left-none : {K : Type 0} (i m : ℕ) (f : ℕ → K) → m ≤ i → drop i (upTo m f) ≡ []
 unfolding upTo
 left-none zero zero f h = refl
 left-none (suc i) zero f h = refl
 left-none zero (suc m) f h = absurd (omega arith)
 left-none (suc i) (suc m) f h = left-none i m (λ c. f (suc c)) (omega (arith, h))
+
+module _ (k : Kind) (s : Pieces) (m : ℕ) (g : ℕ → List Float) (h : ℕ → ℕ) where
+  -- m points, number i at g i with the payload h i
+  abbrev pub row : List Point
+  row = upTo m (λ i. record { at = g i; payload = h i })
+
+  taken-on : (c : Pieces) (n i : ℕ) (vs : List Float) (mark : ℕ) → i < m → vs ≡ g i → mark ≡ h i → Bulking k s row c n (drop i row) → Bulking k s row c n (record { at = vs; payload = mark } ∷ drop (i + 1) row)
+  taken-on c n i vs mark lt ev em b =
+      subst (Bulking k s row c n) (left-next i m (λ i. record { at = g i; payload = h i }) lt ∙ ap₂ {C = List Point} (λ p ps. p ∷ ps) (ap₂ {C = Point} (λ a b. record { at = a; payload = b }) (sym ev) (sym em)) (ap (λ (j : ℕ). drop j row) (sym (add-one i)))) b
+
+  pub bulk-next : (c c' : Pieces) (n r i : ℕ) (vs : List Float) (mark : ℕ) → Bulking k s row c n (drop i row) → i < m → vs ≡ g i → mark ≡ h i → DoesHeld k (Insert (record { at = vs; payload = mark })) c c' r 0 → r ≤ 1
+      → Bulking k s row c' (n + (1 - r)) (drop (i + 1) row)
+  bulk-next c c' n r i vs mark b lt ev em ins le = bulking-next k s row c c' n r (record { at = vs; payload = mark }) (drop (i + 1) row) (taken-on c n i vs mark lt ev em b) ins le
+
+  pub bulk-stop : (c c' : Pieces) (n r i : ℕ) (vs : List Float) (mark : ℕ) → Bulking k s row c n (drop i row) → i < m → vs ≡ g i → mark ≡ h i → DoesHeld k (Insert (record { at = vs; payload = mark })) c c' r 0 → 1 < r
+      → DoesHeld k (Bulk row) s c' r n
+  bulk-stop c c' n r i vs mark b lt ev em ins gt = bulking-stop k s row c c' n r (record { at = vs; payload = mark }) (drop (i + 1) row) (taken-on c n i vs mark lt ev em b) ins gt
+
+  pub bulk-end : (c : Pieces) (n i : ℕ) → Bulking k s row c n (drop i row) → m ≤ i → DoesHeld k (Bulk row) s c 0 n
+  bulk-end c n i b le = bulking-end k s row c n (drop i row) b (left-none i m (λ i. record { at = g i; payload = h i }) le)
