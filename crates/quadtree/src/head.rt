@@ -1,10 +1,12 @@
 // The head of a tree, boundary and capacity, and the lengths of the pieces.
 ghost use mathlib.Core.Path.{_≡_};
 ghost use Rattle.words.specs.Words.{words};
+ghost use Rattle.model.specs.Boxes.{acceptable};
 ghost use Rattle.model.specs.Calls.{quadtree};
 ghost use Rattle.geometry.specs.Sides.{sides2};
 ghost use Rattle.trees.specs.Pieces.{pieces, Fits, boundaryOf, capacityOf, Decides};
 use geometry::plane::Rectangle;
+use sound::accepts_side;
 use words::get;
 use words::get_float;
 
@@ -27,6 +29,13 @@ pub fn capacity(head: &[u8]) -> u32
     ensures { λ r. ⌜ r ≡ capacityOf 2 (words (now (head .entry))) ⌝ }
 {
     get(head, 8)
+}
+
+// Whether a rectangle can be a boundary.
+pub fn accepts(b: Rectangle) -> bool
+    ensures { λ r. ⌜ r ≡ acceptable (sides2 b) ⌝ }
+{
+    accepts_side(b.x, b.width) & accepts_side(b.y, b.height)
 }
 
 // Whether all pieces have a quadtree's lengths.

@@ -7,14 +7,19 @@ use mathlib.Core.List.{List, [], _∷_}
 use Prim.Native.Nat.{ℕ, zero, suc, _+_, _*_, _/_, _%_, _^_, _<_, _≤_}
 use native.Mathlib.Omega.{arith}
 use native.Mathlib.Nat.{pow-succ'}
-use lib.Dec.{T, eqb}
-use borrow.Author.Tests.{not-false, eqb-true, eqb-false, eq-eqb, ne-eqb}
+use lib.Dec.{T, eqb, lit≤}
+use borrow.Author.Tests.{not-true, not-false, eqb-true, eqb-false, eq-eqb, ne-eqb}
 use lib.ListN.{length}
-use lib.Ieee.{Float, nan, binary64, le, lt, ne, fits}
+use lib.IntN.{pos}
+use lib.Ieee.{Float, nan, fin, binary64, neg, le, lt, eq, ne, fits, ofBits, nanBits}
+use lib.Ieee.Bits.{ofBits-fits}
+use lib.Ieee.Fits.{neg-fits}
+use Rattle.floats.specs.Values.{plusZero}
 use lib.Ieee.Compare.{differs-from-itself}
-use Rattle.floats.proofs.Order.{nan-le, le-nan, le-transitive, le-total, le-nums, lt→le, lt-is, num-of, num?}
-use Rattle.floats.proofs.Patterns.{nan-is, same-no-nan}
-use Rattle.model.specs.Boxes.{Side, far, onEach, holds, inside, mid, turn, route, part}
+use Rattle.floats.proofs.Order.{nan-le, le-nan, le-transitive, le-total, le-nums, lt→le, lt-is, num-of, num?, le-eq, eq→le, eq-symmetric}
+use Rattle.floats.proofs.Bounds.{pow-fits}
+use Rattle.floats.proofs.Patterns.{same-no-nan, zero-bits}
+use Rattle.model.specs.Boxes.{Side, far, onEach, holds, inside, mid, turn, route, bounded, acceptable}
 use Rattle.model.specs.Soundness.{All}
 use Rattle.model.proofs.Inside.{F64, F64Side, far-held, mid-held}
 
@@ -241,3 +246,82 @@ pub whole-length : (b : List Side) → length (whole b) ≡ length b
 unfolding whole
 whole-length [] = refl
 whole-length (s ∷ b) = ap suc (whole-length b)
+
+-- ---- as the code has them
+module _ (h : Bool) (l m : Float) where
+  pub low-same : not h ≡ true → l ≡ cond h (higher l m) l
+  low-same e = sym (ap (λ (t : Bool). cond t (higher l m) l) (not-true h e))
+
+  pub low-mid : not h ≡ false → le l m || ne m m ≡ true → m ≡ cond h (higher l m) l
+  unfolding higher
+  low-mid e t = sym (ap₂ (λ (u v : Bool). cond u (cond v m l) l) (not-false h e) t)
+
+  pub low-low : not h ≡ false → le l m || ne m m ≡ false → l ≡ cond h (higher l m) l
+  unfolding higher
+  low-low e t = sym (ap₂ (λ (u v : Bool). cond u (cond v m l) l) (not-false h e) t)
+
+  pub top-mid : h ≡ false → lt m l || ne l l ≡ true → m ≡ cond h l (lower l m)
+  unfolding lower
+  top-mid e t = sym (ap₂ (λ (u v : Bool). cond u l (cond v m l)) e t)
+
+  pub top-top : h ≡ false → lt m l || ne l l ≡ false → l ≡ cond h l (lower l m)
+  unfolding lower
+  top-top e t = sym (ap₂ (λ (u v : Bool). cond u l (cond v m l)) e t)
+
+-- ---- the sides of a boundary
+abbrev most : Float
+most = fin false 1 (pos 500)
+
+abbrev limit : Float
+limit = ofBits binary64 0x5f30_0000_0000_0000
+
+pub limit-no-nan : T (not (nanBits binary64 0x5f30_0000_0000_0000))
+unfolding nanBits
+limit-no-nan = tt
+
+limit-is : T (eq limit most)
+unfolding ofBits eq
+limit-is = tt
+
+below-is : T (eq (neg limit) (fin true 1 (pos 500)))
+unfolding ofBits neg eq
+below-is = tt
+
+most-held : F64 most
+most-held = pow-fits binary64 false 500 (lit≤ tt)
+
+limit-held : F64 limit
+limit-held = ofBits-fits binary64 0x5f30_0000_0000_0000
+
+-- equal values stand on the same side
+eq-le : (x y v : Float) → F64 x → F64 y → F64 v → T (eq x y) → le x v ≡ le y v
+eq-le x y v fx fy fv e = by-test (le x v)
+    (λ h. h ∙ sym (true-of (le-transitive binary64 y x v fy fx fv (eq→le y x (eq-symmetric binary64 x y fx fy e)) (holds-of h))))
+    (λ h. h ∙ by-test (le y v) (λ k. fails (true-of (le-transitive binary64 x y v fx fy fv (eq→le x y e) (holds-of k))) h) (λ k. sym k))
+
+bounded-is : (v : Float) → F64 v → le (neg limit) v && le v limit ≡ bounded v
+unfolding bounded
+bounded-is v f = ap₂ (λ (a b : Bool). a && b) (eq-le (neg limit) (fin true 1 (pos 500)) v (neg-fits binary64 limit limit-held) (pow-fits binary64 true 500 (lit≤ tt)) f below-is) (le-eq binary64 v limit most f limit-held most-held limit-is)
+
+pub side-is : (c e : Float) → F64 c → F64 e → (le (neg limit) c && le c limit) && ((le (neg limit) e && le e limit) && le (ofBits binary64 0) e) ≡ bounded c && (bounded e && le plusZero e)
+side-is c e fc fe = ap₂ (λ (a b : Bool). a && b) (bounded-is c fc) (ap₂ (λ (a b : Bool). a && b) (bounded-is e fe) (ap (λ (z : Float). le z e) zero-bits))
+
+-- a boundary, one axis at a time
+pub accept-more : (s : Side) (b : List Side) (x y : Bool) → x ≡ bounded (s .corner) && (bounded (s .extent) && le plusZero (s .extent)) → y ≡ acceptable b → x && y ≡ acceptable (s ∷ b)
+unfolding acceptable
+accept-more s b x y ex ey = ap₂ (λ (u v : Bool). u && v) ex ey ∙ inner (bounded (s .corner)) (bounded (s .extent)) (le plusZero (s .extent)) (acceptable b)
+  where
+    inner : (p q r t : Bool) → (p && (q && r)) && t ≡ p && (q && (r && t))
+    inner true true r t = refl
+    inner true false r t = refl
+    inner false q r t = refl
+
+pub accept-last : (s : Side) (x : Bool) → x ≡ bounded (s .corner) && (bounded (s .extent) && le plusZero (s .extent)) → x ≡ acceptable (s ∷ [])
+unfolding acceptable
+accept-last s x ex = ex ∙ plain (bounded (s .corner)) (bounded (s .extent)) (le plusZero (s .extent))
+  where
+    plain : (p q r : Bool) → p && (q && r) ≡ p && (q && (r && true))
+    plain true true true = refl
+    plain true true false = refl
+    plain true false r = refl
+    plain false q r = refl

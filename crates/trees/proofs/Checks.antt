@@ -36,6 +36,17 @@ unfoldable pub counts : (ways : ℕ) → List ℕ → ℕ → (c some : ℕ) →
 counts ways n k c zero = 0
 counts ways n k c (suc some) = getD n (4 * kid ways k c + 3) 0 + counts ways n k (suc c) some
 
+pub counts-start : (ways : ℕ) (n : List ℕ) (k : ℕ) → counts ways n k 0 (ways - 0) ≡ counts ways n k 0 ways
+counts-start ways n k = ap (counts ways n k 0) {x = ways - 0} {y = ways} (omega arith)
+
+pub counts-step : (ways : ℕ) (n : List ℕ) (k c : ℕ) → c < ways → counts ways n k c (ways - c) ≡ getD n (4 * kid ways k c + 3) 0 + counts ways n k (c + 1) (ways - (c + 1))
+unfolding counts
+counts-step ways n k c h = ap (counts ways n k c) {x = ways - c} {y = suc (ways - (c + 1))} (omega arith) ∙ ap (λ (e : ℕ). getD n (4 * kid ways k c + 3) 0 + counts ways n k e (ways - (c + 1))) (sym (add-one c))
+
+pub counts-end : (ways : ℕ) (n : List ℕ) (k c : ℕ) → ways ≤ c → counts ways n k c (ways - c) ≡ 0
+unfolding counts
+counts-end ways n k c h = ap (counts ways n k c) {x = ways - c} {y = 0} (omega arith)
+
 module _ (ways cap : ℕ) (pt : ℕ → Point) (n x : List ℕ) where
   -- ---- what is asked of a tree
   -- a place within the links whose point lies within the bounds

@@ -6,6 +6,7 @@ use mathlib.Core.List.{List, [], _∷_}
 use Prim.Native.Nat.{ℕ, zero, suc, _+_, _-_, _<_, _≤_}
 use native.Mathlib.Omega.{arith}
 use lib.Dec.{T}
+use borrow.Author.Tests.{not-true}
 use lib.ListN.{length, getD, set, length-set}
 use lib.Seq.{getD-set-same, getD-set-other}
 use Rattle.pool.specs.Lists.{is, occ, lastOr}
@@ -152,3 +153,46 @@ module _ (next : ℕ → ℕ) (ok : ℕ → Type 0) where
         at [] rest k s d f mk = absurd (z k)
         at (p ∷ l) rest k s d f mk = w .only (mk .low) l rest (subst (λ (u : ℕ). Linked u l) (sym (en ∙ ap next (k .0))) (k .3)) (omega (arith, s, el))
             (subst (λ (u : ℕ). done rest (lastOr u l) ≡ true) (sym (k .0)) d) (λ q. omega (arith, f q, mk .sums q, ap (λ (u : ℕ). is q u) (k .0)))
+
+-- ---- a list of free ones: all of it is walked, and it may end anywhere
+abbrev pub always : ℕ → ℕ → Bool
+always r b = true
+
+module _ (next : ℕ → ℕ) (ok : ℕ → Type 0) where
+  -- there is a mark for each that is as it must be
+  pub record Fitted (m : List ℕ) : Type 0 where
+    pub within : (p : ℕ) → p < length m → ok p
+    pub below : (p : ℕ) → ok p → p < length m
+
+  unfoldable pub Frees : (m : List ℕ) (h : ℕ) (m' : List ℕ) → Bool → Type 0
+  Frees m h m' r = Fitted m → (b : ℕ) → Walks next ok always m h b (length m) m' r
+
+  -- the loop: what is left leads to the whole
+  pub record Freeing (m : List ℕ) (h : ℕ) (now : List ℕ) (q left : ℕ) : Type 0 where
+    pub same : length now ≡ length m
+    pub on : Fitted m → (m' : List ℕ) (r : Bool) → ((b : ℕ) → Walks next ok always now q b left m' r) → (b : ℕ) → Walks next ok always m h b (length m) m' r
+
+  pub freeing-start : (m : List ℕ) (h q : ℕ) → q ≡ h → Freeing m h m q (length m)
+  freeing-start m h q e = record { same = refl; on = λ f m' r w b. subst (λ (k : ℕ). Walks next ok always m k b (length m) m' r) e (w b) }
+
+  module _ (m : List ℕ) (h : ℕ) (now : List ℕ) (q left : ℕ) (g : Freeing m h now q left) where
+    pub freeing-step : (now' : List ℕ) (q' : ℕ) (t : Bool) → q ≢ 0 → left ≢ 0 → Claims now now' q t → t ≡ true → q' ≡ next q → Freeing m h now' q' (left - 1)
+    freeing-step now' q' t nz nl c e eq =
+        let c1 : Claims now now' q true = subst (λ (u : Bool). Claims now now' q u) e c in
+        let s = c1 .sure refl in
+        record {
+          same = ap length (s .2) ∙ length-set now q 1 ∙ g .same;
+          on = λ f m' r w. g .on f m' r (λ b. walks-step next ok always now q b left now' q' (left - 1) m' r nz (f .within q (omega (arith, s .0, g .same))) c1 eq (omega arith) (w q));
+        }
+
+    pub freeing-over : (m' : List ℕ) → q ≢ 0 → left ≡ 0 → Frees m h m' false
+    unfolding Frees
+    freeing-over m' nz e f = g .on f m' false (λ b. walks-over next ok always now q b left m' nz e)
+
+    pub freeing-met : (now' m' : List ℕ) (t : Bool) → q ≢ 0 → Claims now now' q t → not t ≡ true → Frees m h m' false
+    unfolding Frees
+    freeing-met now' m' t nz c e f = g .on f m' false (λ b. walks-met next ok always now q b left now' m' nz (λ o. omega (arith, f .below q o, g .same)) (subst (λ (u : Bool). Claims now now' q u) (not-true t e) c))
+
+    pub freeing-end : q ≡ 0 → Frees m h now true
+    unfolding Frees
+    freeing-end z f = g .on f now true (λ b. walks-end next ok always now q b left true z refl)

@@ -36,7 +36,7 @@ use Rattle.trees.specs.Pieces.{Pieces, Fits, boundaryOf, capacityOf, pla
 use Rattle.trees.proofs.Areas.{Bound, F64Bound, lies, narrowed, whole, narrowed-lies, narrowed-held, narrowed-length, whole-lies, whole-held, whole-length}
 use Rattle.trees.proofs.Heads.{both}
 use Rattle.trees.proofs.Checks.{Tested, Proper, Found, Checked, Checks, Sized}
-use Rattle.trees.proofs.Marks.{Low, Marked, Fresh, Linked, Listed, Walks, AllMet}
+use Rattle.trees.proofs.Marks.{Low, Marked, Fresh, Linked, Listed, Walks, AllMet, always}
 
 -- ---- every point of a tree with place numbers
 module _ (P : ℕ → Type 0) where
@@ -240,9 +240,6 @@ all-or-none (suc d) w pt (branch k ts) f = (length-map ts (erase pt d) ∙ f .0,
     row (t ∷ ts) f go = (go t (f .0), row ts (f .1) go)
 
 -- ---- whole pieces
-abbrev pub always : ℕ → ℕ → Bool
-always r b = true
-
 module _ (k : Kind) (s : Pieces) (rows : ℕ) (er : k .most ≡ suc (ways k * rows)) (lw : 2 ≤ ways k) where
   abbrev n : List ℕ
   n = words (s .nodes)
