@@ -1,11 +1,13 @@
-use mathlib.Core.Path.{_≡_, refl, sym, subst, _∙_}
+use mathlib.Core.Path.{_≡_, refl, ap₂, _∙_}
+use mathlib.Core.List.{List, [], _∷_}
 use Prim.Native.Nat.{_≤_, _-_}
 use native.Mathlib.Omega.{arith}
+use lib.Ieee.{Float}
 use lib.ListN.{length, drop}
 use borrow.Author.Needs.{needs}
 use Rattle.model.specs.Calls.{quadtree}
 use Rattle.trees.specs.Pieces.{lent, pieces}
-use Rattle.trees.proofs.Bulks.{Bulking, bulking-start}
+use Rattle.trees.proofs.Bulks.{Bulking, bulk-end, bulk-next, bulk-stop, bulking-start}
 use Rattle.quadtree_changes.proofs.bulk.insert_bulk.Statement.{statement}
 use Rattle.quadtree_changes.proofs.bulk.insert_bulk.Tie as tie
 
@@ -21,7 +23,7 @@ lent-points-requires : tie.Need-lent-points-requires Inv-loop μ-loop
 lent-points-requires c κs = search needs
 
 loop-holds : tie.Need-loop-holds Inv-loop μ-loop
-loop-holds c = search needs
+loop-holds c = (omega arith, refl, refl, refl, bulking-start _ _ _)
 
 mul-get-float : tie.Need-mul-get-float Inv-loop μ-loop
 mul-get-float c = search needs
@@ -54,13 +56,13 @@ same-length-3 : tie.Need-same-length-3 Inv-loop μ-loop
 same-length-3 c = search needs
 
 returns : tie.Need-returns Inv-loop μ-loop
-returns c = search needs
+returns c = bulk-stop quadtree _ _ _ _ _ _ _ _ _ _ _ (c .before .before .before .before .before .before .before .before .before .before .before .before .before .before .before .loop .inv .4) (omega (arith, (c .before .before .before .before .before .before .before .before .before .before .before .before .before .before .loop-test .taken), (c .before .before .before .before .before .before .before .before .before .before .before .before .before .before .before .before .lent-points .ensures))) (ap₂ {C = List Float} (λ x y. x ∷ y ∷ []) (c .before .before .before .before .before .before .before .before .before .before .before .before .before .get-float .ensures) (c .before .before .before .before .before .before .before .before .before .before .before .before .get-float2 .ensures)) (c .before .before .before .before .before .before .before .before .before .before .before .get .ensures) (c .before .before .before .before .before .before .before .insert .ensures) (c .if1 .taken)
 
 cast-n : tie.Need-cast-n Inv-loop μ-loop
 cast-n c = search needs
 
 add-n : tie.Need-add-n Inv-loop μ-loop
-add-n c = ?
+add-n c = search needs
 
 add-i : tie.Need-add-i Inv-loop μ-loop
 add-i c = search needs
@@ -69,7 +71,7 @@ loop-less : tie.Need-loop-less Inv-loop μ-loop
 loop-less c = search needs
 
 loop-again : tie.Need-loop-again Inv-loop μ-loop
-loop-again c = ?
+loop-again c = (omega (arith, (c .before .before .before .before .before .before .before .before .before .before .before .before .before .before .before .loop .inv .0)), (c .before .before .before .before .before .before .before .insert .kept .1 .0) ∙ (c .before .before .before .before .before .before .before .before .before .before .before .before .before .before .before .loop .inv .1), (c .before .before .before .before .before .before .before .insert .kept .1 .1 .0) ∙ (c .before .before .before .before .before .before .before .before .before .before .before .before .before .before .before .loop .inv .2), (c .before .before .before .before .before .before .before .insert .kept .1 .1 .1 .0) ∙ (c .before .before .before .before .before .before .before .before .before .before .before .before .before .before .before .loop .inv .3), bulk-next quadtree _ _ _ _ _ _ _ _ _ _ _ (c .before .before .before .before .before .before .before .before .before .before .before .before .before .before .before .loop .inv .4) (omega (arith, (c .before .before .before .before .before .before .before .before .before .before .before .before .before .before .loop-test .taken), (c .before .before .before .before .before .before .before .before .before .before .before .before .before .before .before .before .lent-points .ensures))) (ap₂ {C = List Float} (λ x y. x ∷ y ∷ []) (c .before .before .before .before .before .before .before .before .before .before .before .before .before .get-float .ensures) (c .before .before .before .before .before .before .before .before .before .before .before .before .get-float2 .ensures)) (c .before .before .before .before .before .before .before .before .before .before .before .get .ensures) (c .before .before .before .before .before .before .before .insert .ensures) (c .if1 .left))
 
 same-length-4 : tie.Need-same-length-4 Inv-loop μ-loop
 same-length-4 c = search needs
@@ -81,7 +83,7 @@ same-length-6 : tie.Need-same-length-6 Inv-loop μ-loop
 same-length-6 c = search needs
 
 returns-2 : tie.Need-returns-2 Inv-loop μ-loop
-returns-2 c = search needs
+returns-2 c = bulk-end quadtree _ _ _ _ _ _ (c .before .loop .i) (c .before .loop .inv .4) (omega (arith, (c .loop-test .left), (c .before .before .lent-points .ensures)))
 
 pub insert-bulk-spec : {M : Type 1} → statement M
 insert-bulk-spec =
