@@ -1,6 +1,5 @@
 -- A bulk as a loop over insertions, one point at a time. Over any kind of tree. Assumes nothing.
 use mathlib.Core.Path.{_≡_, refl, ap, ap₂, sym, _∙_, subst}
-use mathlib.Core.Logic.{_≢_}
 use mathlib.Core.Bool.{Bool, true, false}
 use mathlib.Core.List.{List, [], _∷_}
 use Prim.Native.Nat.{ℕ, zero, suc, _+_, _-_, _<_, _≤_}
@@ -10,7 +9,7 @@ use native.Mathlib.Numerals.{add-one}
 use lib.Ieee.{Float}
 use lib.ListN.{drop}
 use Rattle.model.specs.Boxes.{inside}
-use Rattle.model.specs.Calls.{Bulk, Insert, Kind, Outcome, Plan, Reply, bulkCall, call, done, full, give, noNodes, number, outside, refuse, step, tree, with-root}
+use Rattle.model.specs.Calls.{Bulk, Insert, Kind, Outcome, Plan, Reply, bulkCall, call, full, give, noNodes, number, outside, refuse, step, tree, with-root}
 use Rattle.model.specs.Trees.{Point, count, nodes}
 use Rattle.model.proofs.Calls.{after}
 use Rattle.pool.specs.Read.{upTo}

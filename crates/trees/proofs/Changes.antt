@@ -1,19 +1,18 @@
--- An insertion and a deletion as calls on pieces that hold a tree: each test of the code is the model's, and what is left is the tree that the model leaves. Over any kind of tree. Assumes nothing.
+-- An insertion as a call on pieces that hold a tree: each test of the code is the model's, and what is left is the tree that the model leaves. Over any kind of tree. Assumes nothing.
 use mathlib.Core.Path.{_≡_, refl, ap, ap₂, sym, _∙_, subst}
-use mathlib.Core.Logic.{_≢_}
 use mathlib.Core.Bool.{Bool, true, false}
 use mathlib.Core.List.{List, [], _∷_, map}
-use Prim.Native.Nat.{ℕ, zero, suc, _+_, _-_, _*_, _/_, _^_, _<_, _≤_}
-use native.Mathlib.Nat.{le-of-mul-le-mul-left, mul-le-mul-left}
+use Prim.Native.Nat.{ℕ, zero, suc, _+_, _*_, _/_, _^_, _<_, _≤_}
+use native.Mathlib.Nat.{mul-le-mul-left}
 use native.Mathlib.Omega.{arith}
 use lib.Dec.{leb, leb→le, ltb, T}
 use lib.Ieee.{Float}
 use lib.ListN.{length, getD, length-set}
 use borrow.Author.Tests.{le-leb, le-ltb, lt-leb, lt-ltb}
 use Rattle.model.specs.Boxes.{Side, inside, part, route}
-use Rattle.model.specs.Calls.{Insert, Kind, Outcome, Plan, call, done, full, give, insertCall, noNodes, number, outside, refuse, step, tree, ways, with-root}
+use Rattle.model.specs.Calls.{Insert, Kind, Outcome, Plan, call, full, give, insertCall, noNodes, number, outside, refuse, step, tree, ways, with-root}
 use Rattle.model.specs.Soundness.{Sound}
-use Rattle.model.specs.Trees.{Point, Tree, bag, count, insert, nodes}
+use Rattle.model.specs.Trees.{Point, Tree, count, nodes}
 use Rattle.model.proofs.Counts.{Good, in-range, part-ways, route-lt}
 use Rattle.model.proofs.Calls.{after}
 use Rattle.model.proofs.Room.{needed, splits}
@@ -23,10 +22,10 @@ use Rattle.model.proofs.Sound.{F64Point, insert-sound}
 use Rattle.model.proofs.Theorems.{nodes-needed}
 use Rattle.words.specs.Words.{words}
 use Rattle.words.proofs.Words.{length-words}
-use Rattle.pool.specs.Lists.{ifz, is, occ}
+use Rattle.pool.specs.Lists.{is, occ}
 use Rattle.pool.specs.Meanings.{TakesPlace, Tells}
 use Rattle.pool.specs.Trees.{leaf, branch, PTree, erase, groupsAt, none, placesAt, size}
-use Rattle.pool.specs.Worlds.{Ready, Rep, World}
+use Rattle.pool.specs.Worlds.{Rep, World}
 use Rattle.pool.specs.Writes.{Pool, both, kid, pool, popped}
 use Rattle.pool.proofs.Erase.{erase-agree}
 use Rattle.pool.proofs.Lists.{by-lt, ifz-no, ifz-yes, is-same}
@@ -34,8 +33,8 @@ use Rattle.pool.proofs.Trees.{groupCount}
 use Rattle.trees.specs.Pieces.{DoesHeld, Fits, Gives, Pieces, Says, boundaryOf, capacityOf, pieces, planOf}
 use Rattle.trees.specs.Points.{pointAt}
 use Rattle.trees.proofs.Descents.{Found, Needs, Spot, listAt, reach, reach-found}
-use Rattle.trees.proofs.Held.{Held, Roomy, does-held, groups-held, links-long, nodes-held, places-held, plan-numbers, pt, refusal, says-held, size-held, size-read, some-ways, whole}
-use Rattle.trees.proofs.Inserts.{Grown, Inserts, child-erase}
+use Rattle.trees.proofs.Held.{Held, Roomy, does-held, groups-held, links-long, nodes-held, places-held, plan-numbers, refusal, says-held, size-held, size-read, some-ways, whole}
+use Rattle.trees.proofs.Inserts.{Inserts, child-erase}
 use Rattle.trees.proofs.Puts.{point-back, point-other, putPoint}
 
 -- ---- the splits that are counted at the node where the way down ends

@@ -3,7 +3,7 @@ use mathlib.Core.Path.{_≡_, refl, ap, ap₂, sym, _∙_, subst}
 use mathlib.Core.Logic.{_≢_}
 use mathlib.Core.Bool.{Bool, true, false}
 use mathlib.Core.List.{List, [], _∷_, zipWith}
-use Prim.Native.Nat.{ℕ, zero, suc, _+_, _-_, _*_, _/_, _<_, _≤_, min}
+use Prim.Native.Nat.{ℕ, zero, suc, _+_, _-_, _*_, _/_, _<_, _≤_}
 use native.Mathlib.Nat.{mul-div-cancel-left}
 use native.Mathlib.Omega.{arith}
 use lib.Dec.{T, eqb}
@@ -11,9 +11,9 @@ use lib.Ieee.{Float}
 use lib.ListN.{length}
 use borrow.Author.Tests.{eq-eqb, ne-eqb}
 use Rattle.model.specs.Boxes.{Side, acceptable}
-use Rattle.model.specs.Calls.{Clear, Create, Kind, Outcome, Plan, Reply, State, badBoundary, broken, call, create, empty, give, misfit, noCapacity, number, onBroken, refuse, step, tree, unsound, ways}
+use Rattle.model.specs.Calls.{Clear, Create, Kind, Outcome, Plan, Reply, State, badBoundary, broken, call, create, empty, give, misfit, noCapacity, number, onBroken, refuse, step, tree, ways}
 use Rattle.model.specs.Soundness.{All, Sound}
-use Rattle.model.specs.Trees.{Tree, bag}
+use Rattle.model.specs.Trees.{Tree}
 use Rattle.model.proofs.Calls.{Regular, kept-empty}
 use Rattle.model.proofs.Inside.{F64, F64Side}
 use Rattle.words.specs.Words.{words}

@@ -1,15 +1,14 @@
 -- Pieces that hold a tree: its numbers, how many places and groups it has, and what is left of it when a call refuses. Over any kind of tree. Assumes nothing.
-use mathlib.Core.Path.{_≡_, refl, ap, sym, _∙_, subst}
+use mathlib.Core.Path.{_≡_, refl, sym, subst}
 use mathlib.Core.Logic.{_≢_}
 use mathlib.Core.List.{List, [], _∷_, map, flatten, zipWith}
-use Prim.Native.Nat.{ℕ, zero, suc, _+_, _-_, _*_, _^_, _<_, _≤_}
+use Prim.Native.Nat.{ℕ, zero, suc, _+_, _-_, _*_, _<_, _≤_}
 use native.Mathlib.Nat.{one-le-pow}
 use native.Mathlib.Omega.{arith}
 use lib.Dec.{lit≤}
 use lib.Ieee.{Float, binary64}
 use lib.Ieee.Bits.{ofBits-fits}
 use lib.ListN.{length, getD}
-use Rattle.model.specs.Boxes.{Side}
 use Rattle.model.specs.Calls.{Call, Kind, Outcome, Plan, Reply, number, refuse, step, tree, ways}
 use Rattle.model.specs.Soundness.{All, Sound}
 use Rattle.model.specs.Trees.{Point, count, held, nodes}
@@ -18,7 +17,7 @@ use Rattle.model.proofs.Lists.{all-append}
 use Rattle.model.proofs.Sound.{F64Point, Inner, Numbers, inner}
 use Rattle.words.specs.Words.{pairs, words}
 use Rattle.words.proofs.Words.{length-words}
-use Rattle.pool.specs.Lists.{occ, sumOf}
+use Rattle.pool.specs.Lists.{occ}
 use Rattle.pool.specs.Trees.{leaf, branch, PTree, erase, groupsAt, placesAt, size}
 use Rattle.pool.specs.Worlds.{Rep, World}
 use Rattle.pool.specs.Writes.{kid, pool}
@@ -26,7 +25,7 @@ use Rattle.pool.proofs.Erase.{erase-count, erase-nodes}
 use Rattle.pool.proofs.Frames.{rep-full}
 use Rattle.pool.proofs.Theorems.{groups-all, places-all}
 use Rattle.pool.proofs.Trees.{groupCount}
-use Rattle.trees.specs.Pieces.{DoesHeld, Fits, Gives, Holds, Pieces, Says, boundaryOf, capacityOf, planOf}
+use Rattle.trees.specs.Pieces.{DoesHeld, Fits, Gives, Pieces, Says, planOf}
 use Rattle.trees.specs.Points.{floats, pointAt}
 
 -- ---- every number that is read is one of f64
@@ -92,7 +91,7 @@ rep-count (suc d) w n x i (leaf l) r = r .4
 rep-count (suc d) w n x i (branch g ts) r = r .3
 
 module _ (k : Kind) (s : Pieces) (t : PTree 32) (fl fp : List ℕ) (f : Fits k s) (h : Held k s t fl fp) where
-  abbrev pub pt : ℕ → Point
+  abbrev pt : ℕ → Point
   pt = pointAt (k .axes) (words (s .points))
 
   pub some-ways : 0 < ways k

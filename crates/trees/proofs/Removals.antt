@@ -1,10 +1,10 @@
 -- A deletion as a call on pieces that hold a tree: each test of the code is the model's, and what is left is the tree that the model leaves. Over any kind of tree. Assumes nothing.
-use mathlib.Core.Path.{_≡_, refl, ap, ap₂, sym, _∙_, subst}
+use mathlib.Core.Path.{_≡_, refl, ap, sym, _∙_, subst}
 use mathlib.Core.Logic.{_≢_}
 use mathlib.Core.Bool.{Bool, true, false, not}
 use mathlib.Core.List.{List, [], _∷_, _++_, map}
 use mathlib.Core.Option.{none, some}
-use Prim.Native.Nat.{ℕ, suc, _+_, _*_, _^_, _<_, _≤_}
+use Prim.Native.Nat.{ℕ, _+_, _*_, _^_, _<_}
 use native.Mathlib.Omega.{arith}
 use lib.Dec.{T, eqb}
 use lib.ListN.{length, getD}
@@ -20,12 +20,12 @@ use Rattle.model.proofs.Short.{deleteS, filled, taken, withoutS}
 use Rattle.model.proofs.Sound.{F64Point, delete-sound, deleted-short}
 use Rattle.words.specs.Words.{words}
 use Rattle.words.proofs.Words.{length-words}
-use Rattle.pool.specs.Lists.{Chain, is, occ}
+use Rattle.pool.specs.Lists.{Chain}
 use Rattle.pool.specs.Meanings.{GivesPlace}
 use Rattle.pool.specs.Read.{chain}
-use Rattle.pool.specs.Trees.{PTree, erase, placesAt}
+use Rattle.pool.specs.Trees.{PTree, erase}
 use Rattle.pool.specs.Worlds.{World}
-use Rattle.pool.specs.Writes.{both, pool}
+use Rattle.pool.specs.Writes.{pool}
 use Rattle.pool.proofs.Chains.{no-zero}
 use Rattle.pool.proofs.Lists.{is-same}
 use Rattle.pool.proofs.Read.{list-is}
