@@ -5,6 +5,8 @@ ghost use Prim.Native.Nat.{ℕ};
 ghost use Rattle.words.specs.Words.{words};
 ghost use Rattle.model.specs.Calls.{quadtree, Clear, Create};
 ghost use Rattle.geometry.specs.Sides.{side};
+ghost use Rattle.pool.specs.Meanings.{Empties};
+ghost use Rattle.pool.specs.Writes.{pool};
 ghost use Rattle.trees.specs.Pieces.{pieces, Does, DoesHeld};
 ghost use Rattle.trees.proofs.Puts.{putHead};
 use geometry::plane::Rectangle;
@@ -21,6 +23,13 @@ fn put_head(head: &mut [u8], x: f64, y: f64, width: f64, height: f64, capacity: 
     put_float(head, 2, width);
     put_float(head, 3, height);
     put(head, 8, capacity);
+}
+
+// Makes node 1 an empty tree, with every group and every place free.
+fn empty(nodes: &mut [u8], links: &mut [u8])
+    ensures { λ _. ⌜ Empties 4 (pool (now (nodes .entry)) (now (links .entry))) (pool (now (nodes .exit)) (now (links .exit))) 1 ⌝ }
+{
+    groups::clear(nodes, links, 4, 1);
 }
 
 // Makes an empty tree in any pieces: 0, or 8 where a piece has a wrong length, 3 for capacity 0, 4 for a boundary that is not taken.
@@ -53,7 +62,7 @@ pub fn create(
         return 4;
     }
     put_head(head, x, y, width, height, capacity);
-    groups::clear(nodes, links, 4, 1);
+    empty(nodes, links);
     0
 }
 
@@ -61,6 +70,6 @@ pub fn create(
 pub fn clear(nodes: &mut [u8], links: &mut [u8]) -> u32
     ensures { λ r. ⌜ ((h p : List ℕ) → DoesHeld quadtree Clear (pieces h (now (nodes .entry)) (now (links .entry)) p) (pieces h (now (nodes .exit)) (now (links .exit)) p) r 0) ⌝ }
 {
-    groups::clear(nodes, links, 4, 1);
+    empty(nodes, links);
     0
 }

@@ -7,8 +7,8 @@ use borrow.Author.Needs.{needs}
 use Rattle.quadtree_changes.proofs.create.clear.Statement.{statement}
 use Rattle.quadtree_changes.proofs.create.clear.Tie as tie
 
-clear-requires : tie.Need-clear-requires
-clear-requires c κs = search needs
+empty-requires : tie.Need-empty-requires
+empty-requires c κs = search needs
 
 same-length : tie.Need-same-length
 same-length c = search needs
@@ -17,7 +17,7 @@ same-length-2 : tie.Need-same-length-2
 same-length-2 c = search needs
 
 returns : tie.Need-returns
-returns c = λ h p. clears quadtree 85 (record { roomy = refl; few = omega arith; low = omega arith }) quadtree-regular _ _ _ (c .before .before .before .before .clear .kept .0) (c .before .before .before .before .clear .kept .1 .0) (c .before .before .before .before .clear .ensures .1)
+returns c = λ h p. clears quadtree 85 (record { roomy = refl; few = omega arith; low = omega arith }) quadtree-regular _ _ _ (c .before .before .before .before .empty .kept .0) (c .before .before .before .before .empty .kept .1 .0) (c .before .before .before .before .empty .ensures)
 
 pub clear-spec : {M : Type 1} → statement M
-clear-spec = tie.close (tie.spec clear-requires same-length same-length-2 returns)
+clear-spec = tie.close (tie.spec empty-requires same-length same-length-2 returns)

@@ -55,8 +55,8 @@ returns-3 c = creates-bad quadtree _ _ _ _ (c .before .before .before .before .f
 put-head-requires : tie.Need-put-head-requires
 put-head-requires c κs = search needs
 
-clear-requires : tie.Need-clear-requires
-clear-requires c κs = search needs
+empty-requires : tie.Need-empty-requires
+empty-requires c κs = search needs
 
 same-length-10 : tie.Need-same-length-10
 same-length-10 c = search needs
@@ -69,7 +69,7 @@ same-length-12 c = search needs
 
 returns-4 : tie.Need-returns-4
 unfolding zipWith
-returns-4 c = creates-done quadtree _ _ _ _ (c .before .before .before .before .before .before .before .before .before .before .before .before .before .before .before .fits2 .ensures) (not-false (c .before .before .before .before .before .before .before .before .before .before .before .before .before .before .before .fits2 .result) (c .before .before .before .before .before .before .before .before .before .before .before .before .before .before .if1 .left)) (c .before .before .before .before .before .before .before .before .before .before .before .before .before .if2 .left) _ (c .before .before .before .before .before .before .before .before .before .before .before .before .accepts .ensures) 85 (record { roomy = refl; few = omega arith; low = omega arith }) quadtree-regular _ _ refl refl refl (subst T (sym (c .before .before .before .before .before .before .before .before .before .before .before .before .before .before .before .before .before .before .before .before .before .before .before .good .1 .1 .1 .1 .0 .1)) tt, (subst T (sym (c .before .before .before .before .before .before .before .before .before .before .before .before .before .before .before .before .before .before .before .before .before .before .before .good .1 .1 .1 .1 .1 .0 .1)) tt, tt)) (subst T (sym (c .before .before .before .before .before .before .before .before .before .before .before .before .before .before .before .before .before .before .before .before .before .before .before .good .1 .1 .1 .1 .1 .1 .0 .1)) tt, (subst T (sym (c .before .before .before .before .before .before .before .before .before .before .before .before .before .before .before .before .before .before .before .before .before .before .before .good .1 .1 .1 .1 .1 .1 .1 .0 .1)) tt, tt)) _ _ _ (c .before .before .before .before .before .before .before .before .before .put-head .kept .0) (c .before .before .before .before .clear .kept .0) (c .before .before .before .before .clear .kept .1 .0) (c .before .before .before .before .before .before .before .before .before .put-head .ensures) (c .before .before .before .before .clear .ensures .1) (not-false (c .before .before .before .before .before .before .before .before .before .before .before .before .accepts .result) (c .before .before .before .before .before .before .before .before .before .before .before .if3 .left))
+returns-4 c = creates-done quadtree _ _ _ _ (c .before .before .before .before .before .before .before .before .before .before .before .before .before .before .before .fits2 .ensures) (not-false (c .before .before .before .before .before .before .before .before .before .before .before .before .before .before .before .fits2 .result) (c .before .before .before .before .before .before .before .before .before .before .before .before .before .before .if1 .left)) (c .before .before .before .before .before .before .before .before .before .before .before .before .before .if2 .left) _ (c .before .before .before .before .before .before .before .before .before .before .before .before .accepts .ensures) 85 (record { roomy = refl; few = omega arith; low = omega arith }) quadtree-regular _ _ refl refl refl (subst T (sym (c .before .before .before .before .before .before .before .before .before .before .before .before .before .before .before .before .before .before .before .before .before .before .before .good .1 .1 .1 .1 .0 .1)) tt, (subst T (sym (c .before .before .before .before .before .before .before .before .before .before .before .before .before .before .before .before .before .before .before .before .before .before .before .good .1 .1 .1 .1 .1 .0 .1)) tt, tt)) (subst T (sym (c .before .before .before .before .before .before .before .before .before .before .before .before .before .before .before .before .before .before .before .before .before .before .before .good .1 .1 .1 .1 .1 .1 .0 .1)) tt, (subst T (sym (c .before .before .before .before .before .before .before .before .before .before .before .before .before .before .before .before .before .before .before .before .before .before .before .good .1 .1 .1 .1 .1 .1 .1 .0 .1)) tt, tt)) _ _ _ (c .before .before .before .before .before .before .before .before .before .put-head .kept .0) (c .before .before .before .before .empty .kept .0) (c .before .before .before .before .empty .kept .1 .0) (c .before .before .before .before .before .before .before .before .before .put-head .ensures) (c .before .before .before .before .empty .ensures) (not-false (c .before .before .before .before .before .before .before .before .before .before .before .before .accepts .result) (c .before .before .before .before .before .before .before .before .before .before .before .if3 .left))
 
 pub create-spec : {M : Type 1} → statement M
 create-spec =
@@ -90,7 +90,7 @@ create-spec =
     same-length-9
     returns-3
     put-head-requires
-    clear-requires
+    empty-requires
     same-length-10
     same-length-11
     same-length-12
