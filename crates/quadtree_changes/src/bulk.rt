@@ -1,7 +1,5 @@
 // Many points at once: insert_bulk of the Rust.
 ghost use mathlib.Core.Path.{_≡_};
-ghost use Prim.Native.Nat.{_/_, min};
-ghost use lib.ListN.{length};
 ghost use Rattle.model.specs.Calls.{quadtree, Bulk};
 ghost use Rattle.trees.specs.Pieces.{pieces, lent, roomFor, DoesHeld};
 use crate::insert::insert;
@@ -45,6 +43,7 @@ pub fn insert_bulk(
         if r > 1 {
             return Stored { reply: r, count: n };
         }
+        // 0 where the point was stored, 1 where it lies outside.
         n += (1 - r) as usize;
         i += 1;
     }
