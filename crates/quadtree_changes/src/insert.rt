@@ -1,0 +1,93 @@
+// Insertion: insert of the Rust. What it needs is counted before anything is written.
+ghost use mathlib.Core.Path.{_≡_};
+ghost use mathlib.Core.List.{[], _∷_};
+ghost use Rattle.words.specs.Words.{words};
+ghost use Rattle.model.specs.Calls.{quadtree, Insert};
+ghost use Rattle.geometry.specs.Sides.{place2, sides2};
+ghost use Rattle.pool.specs.Writes.{pool};
+ghost use Rattle.trees.specs.Pieces.{pieces, DoesHeld};
+ghost use Rattle.trees.specs.Points.{pointAt};
+ghost use Rattle.trees.proofs.Changes.{Rooms, Stores};
+use crate::put::put_point;
+use geometry::plane::Point2D;
+use geometry::plane::Rectangle;
+use groups::has_groups;
+use pool::count;
+use pool::take_place;
+use quadtree::descent::leaf_of;
+use quadtree::descent::need;
+use quadtree::head::boundary;
+use quadtree::head::capacity;
+use quadtree::insert::insert_within;
+
+// Whether enough groups are free for the splits that a point brings.
+fn has_room(
+    nodes: &[u8],
+    links: &[u8],
+    points: &[u8],
+    bounds: Rectangle,
+    capacity: u32,
+    at: Point2D,
+) -> bool
+    ensures { λ r. ⌜ Rooms 4 capacity (pointAt 2 (words (now (points .entry)))) (place2 at) (words (now (nodes .entry))) (words (now (links .entry))) 32 (sides2 bounds) 1 r ⌝ }
+{
+    let leaf = leaf_of(nodes, 1, bounds, 32, at);
+    let k = need(
+        nodes,
+        links,
+        points,
+        leaf.node,
+        leaf.bounds,
+        leaf.levels,
+        capacity,
+        at,
+    );
+    has_groups(nodes, 4, k)
+}
+
+// Puts a point into the tree, in a free place.
+fn store(
+    nodes: &mut [u8],
+    links: &mut [u8],
+    points: &mut [u8],
+    bounds: Rectangle,
+    capacity: u32,
+    x: f64,
+    y: f64,
+    mark: u32,
+)
+    ensures { λ _. ⌜ Stores 2 4 capacity 32 (sides2 bounds) 1 (record { at = x ∷ y ∷ []; payload = mark }) (pool (now (nodes .entry)) (now (links .entry))) (pool (now (nodes .exit)) (now (links .exit))) (words (now (points .entry))) (words (now (points .exit))) ⌝ }
+{
+    let p = take_place(links);
+    put_point(points, p, x, y, mark);
+    insert_within(nodes, links, points, 1, bounds, 32, capacity, p);
+}
+
+// Inserts a point: 0, or 1 outside the boundary, 5 where 512 points are held, 6 where there would be too many nodes.
+pub fn insert(
+    head: &[u8],
+    nodes: &mut [u8],
+    links: &mut [u8],
+    points: &mut [u8],
+    x: f64,
+    y: f64,
+    mark: u32,
+) -> u32
+    ensures { λ r. ⌜ DoesHeld quadtree (Insert (record { at = x ∷ y ∷ []; payload = mark })) (pieces (now (head .entry)) (now (nodes .entry)) (now (links .entry)) (now (points .entry))) (pieces (now (head .entry)) (now (nodes .exit)) (now (links .exit)) (now (points .exit))) r 0 ⌝ }
+{
+    let bounds = boundary(head);
+    let at = Point2D { x, y };
+    if !bounds.contains(at) {
+        return 1;
+    }
+    let n = count(nodes, 1);
+    if n >= 512 {
+        return 5;
+    }
+    let most = capacity(head);
+    if !has_room(nodes, links, points, bounds, most, at) {
+        return 6;
+    }
+    store(nodes, links, points, bounds, most, x, y, mark);
+    0
+}
