@@ -1,0 +1,2 @@
+-- What is handed over. Definitions only.
+pub mod Handed
