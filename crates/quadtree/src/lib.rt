@@ -1,6 +1,7 @@
 // The quadtree: quadtree.rs, over places in lent pieces.
 pub mod delete;
 pub mod descent;
+pub mod head;
 pub mod insert;
 pub mod nearest;
 pub mod place;

@@ -2,6 +2,7 @@ pub mod Collects
 pub mod Descents
 pub mod Deletes
 pub mod Finds
+pub mod Heads
 pub mod Inserts
 pub mod Seeks
 pub mod Tables

@@ -1,6 +1,7 @@
 -- A tree in its four lent pieces, and what a call does to them: document 01, "Room", "Reply numbers" and "What the contracts must say". Definitions only.
 use mathlib.Core.Path.{_≡_}
 use mathlib.Core.Logic.{_≢_}
+use mathlib.Core.Bool.{Bool, true}
 use mathlib.Core.List.{List, [], _∷_, map, flatten, zipWith}
 use Prim.Native.Nat.{ℕ, zero, suc, _+_, _-_, _*_, _/_, _%_, _<_, _≤_, min}
 use lib.ListN.{length, getD}
@@ -66,6 +67,17 @@ abbrev pub Says : Kind → Pieces → State → Type 0
 Says k s misfit = Fits k s → ⊥
 Says k s broken = Fits k s × ((a : Plan) → Holds k s a → ⊥)
 Says k s (tree a) = Fits k s × Holds k s a
+
+-- the pieces hold some sound tree
+pub record Sane (k : Kind) (s : Pieces) : Type 0 where
+  pub fits : Fits k s
+  pub plan : Plan
+  pub holds : Holds k s plan
+
+-- a test says yes exactly when P holds
+pub record Decides (r : Bool) (P : Type 0) : Type 0 where
+  pub sure : r ≡ true → P
+  pub only : P → r ≡ true
 
 -- ---- calls
 -- what a call gives, by its outcome: the reply number, the count, and the pieces afterwards. Place numbers are free: the pieces are in the state that is left.

@@ -1,0 +1,39 @@
+-- Tests that decide, the lengths of the pieces, and the boundary as it is read. Assumes nothing.
+use mathlib.Core.Path.{_≡_, refl, ap₂, _∙_, sym, subst}
+use mathlib.Core.Bool.{Bool, true, false, _&&_}
+use mathlib.Core.List.{List, zipWith}
+use Prim.Native.Nat.{ℕ, _+_, _-_, _*_}
+use lib.Dec.{T, eqb}
+use borrow.Author.Tests.{eqb-true, eq-eqb}
+use lib.ListN.{length}
+use lib.Ieee.{Float}
+use Rattle.model.specs.Boxes.{Side}
+use Rattle.model.specs.Calls.{Kind, ways}
+use Rattle.words.specs.Words.{pairs}
+use Rattle.trees.specs.Points.{floats}
+use Rattle.trees.specs.Pieces.{Pieces, Fits, boundaryOf, Decides}
+
+both : (t u : Bool) → t && u ≡ true → (t ≡ true) × (u ≡ true)
+both true u h = (refl, h)
+both false u h = absurd (subst T (sym h) tt)
+
+pub decide-and : (a b : Bool) (P Q : Type 0) → Decides a P → Decides b Q → Decides (a && b) (P × Q)
+decide-and a b P Q p q = record { sure = λ h. let e = both a b h in (p .sure (e .0), q .sure (e .1)); only = λ z. ap₂ (λ (u v : Bool). u && v) (p .only (z .0)) (q .only (z .1)) }
+
+pub decide-eq : (m n : ℕ) → Decides (eqb m n) (m ≡ n)
+decide-eq m n = record { sure = λ h. eqb-true m n h; only = λ h. eq-eqb m n h }
+
+-- the same test for what is the same
+pub decide-as : (a : Bool) (P Q : Type 0) → (P → Q) → (Q → P) → Decides a P → Decides a Q
+decide-as a P Q f g d = record { sure = λ h. f (d .sure h); only = λ q. d .only (g q) }
+
+pub fitting : (k : Kind) (s : Pieces) (h n x p : ℕ) → h ≡ 16 * k .axes + 8 → n ≡ 16 * (k .most - 1 + ways k) → x ≡ 4 * 513 → p ≡ 8 * (k .axes + 1) * 513
+    → Decides (((eqb (length (s .head)) h && eqb (length (s .nodes)) n) && eqb (length (s .links)) x) && eqb (length (s .points)) p) (Fits k s)
+fitting k s h n x p eh en ex ep =
+    decide-as _ _ (Fits k s)
+    (λ z. record { head = z .0 .0 .0 ∙ eh; nodes = z .0 .0 .1 ∙ en; links = z .0 .1 ∙ ex; points = z .1 ∙ ep })
+    (λ f. (((f .head ∙ sym eh, f .nodes ∙ sym en), f .links ∙ sym ex), f .points ∙ sym ep))
+    (decide-and _ _ _ _ (decide-and _ _ _ _ (decide-and _ _ _ _ (decide-eq (length (s .head)) h) (decide-eq (length (s .nodes)) n)) (decide-eq (length (s .links)) x)) (decide-eq (length (s .points)) p))
+
+pub boundary-is : (axes : ℕ) (w : List ℕ) (cs es : List Float) → cs ≡ floats axes (pairs w) 0 → es ≡ floats axes (pairs w) axes → zipWith {C = Side} (λ c e. record { corner = c; extent = e }) cs es ≡ boundaryOf axes w
+boundary-is axes w cs es ec ee = ap₂ {C = List Side} (zipWith (λ c e. record { corner = c; extent = e })) ec ee
