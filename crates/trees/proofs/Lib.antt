@@ -1,9 +1,12 @@
+pub mod Changes
 pub mod Collects
-pub mod Descents
 pub mod Deletes
+pub mod Descents
 pub mod Finds
 pub mod Heads
+pub mod Held
 pub mod Inserts
+pub mod Puts
 pub mod Seeks
 pub mod Tables
 pub mod Turns
