@@ -5,19 +5,20 @@ use Prim.Native.Nat.{ℕ, zero, suc, _+_, _-_, _*_, _/_, _%_, _<_, _≤_, min}
 use native.Mathlib.Nat.{div-mul-le-self, div-zero, mul-comm, mul-le-mul-left, mul-left-comm, mul-suc, suc-mul}
 use native.Mathlib.Numerals.{add-one, add-two, add-three, unary-clauses}
 use native.Mathlib.Omega.{arith}
-use lib.ListN.{length, getD, set, take, drop, length-append, length-map, drop-of-length-le}
+use lib.ListN.{length, getD, set, take, drop, length-map, drop-of-length-le}
 use lib.Seq.{sets, drop-cons, getD-take, length-take-le, take-all}
 use lib.Ieee.{Float, binary64, ofBits, toBits}
 use borrow.Author.Tests.{le-leb, lt-leb}
 use mathlib.Core.Bool.{Bool, true, false}
 use Rattle.model.specs.Calls.{Outcome, done, noRoom, tree, refuse, searchCall, number}
 use Rattle.model.specs.Trees.{Point}
-use Rattle.words.specs.Words.{words, pairs}
+use Rattle.words.specs.Words.{pairs}
 use Rattle.pool.proofs.Lists.{by-lt}
 use Rattle.trees.specs.Pieces.{bytes, coordinates, payloads, roomFor, Hands}
 use Rattle.trees.specs.Points.{floats, pointAt}
+use Rattle.trees.proofs.Queries.{none-marked, none-written}
 use Rattle.trees.proofs.Walks.{sets-append}
-use Rattle.answers.specs.Handed.{Handed}
+use Rattle.trees.specs.Handed.{Handed}
 
 -- ---- numbers
 -- four bytes, as the code has their quotients
@@ -152,17 +153,9 @@ places-next : (p : Point) (ps : List Point) → coordinates (p ∷ ps) ≡ float
 unfolding coordinates floatBytes flatten bytes
 places-next p ps = refl
 
-places-none : coordinates [] ≡ []
-unfolding coordinates flatten
-places-none = refl
-
 marks-next : (p : Point) (ps : List Point) → payloads (p ∷ ps) ≡ bytes 4 (p .payload) ++ payloads ps
 unfolding payloads flatten bytes
 marks-next p ps = refl
-
-marks-none : payloads [] ≡ []
-unfolding payloads flatten
-marks-none = refl
 
 bytes-four : (v : ℕ) → length (bytes 4 v) ≡ 4
 unfolding bytes
@@ -226,10 +219,10 @@ module _ (axes : ℕ) (w found : List ℕ) (n : ℕ) (cs ms : List ℕ) where
     }
 
     pub answering-places : (cs' ms' : List ℕ) (j : ℕ) → Answering cs' ms' j → n ≤ j → cs' ≡ sets cs 0 (coordinates points)
-    answering-places cs' ms' j q h = writing-end (coordinates points) cs 0 cs' (8 * (axes * j)) (subst (λ (l : List ℕ). Writing (coordinates points) cs 0 l cs' (8 * (axes * j))) (ap coordinates (no-more j h) ∙ places-none) (q .places))
+    answering-places cs' ms' j q h = writing-end (coordinates points) cs 0 cs' (8 * (axes * j)) (subst (λ (l : List ℕ). Writing (coordinates points) cs 0 l cs' (8 * (axes * j))) (ap coordinates (no-more j h) ∙ none-written) (q .places))
 
     pub answering-marks : (cs' ms' : List ℕ) (j : ℕ) → Answering cs' ms' j → n ≤ j → ms' ≡ sets ms 0 (payloads points)
-    answering-marks cs' ms' j q h = writing-end (payloads points) ms 0 ms' (4 * j) (subst (λ (l : List ℕ). Writing (payloads points) ms 0 l ms' (4 * j)) (ap payloads (no-more j h) ∙ marks-none) (q .marks))
+    answering-marks cs' ms' j q h = writing-end (payloads points) ms 0 ms' (4 * j) (subst (λ (l : List ℕ). Writing (payloads points) ms 0 l ms' (4 * j)) (ap payloads (no-more j h) ∙ none-marked) (q .marks))
 
 -- ---- the whole answer
 module _ (axes : ℕ) (w found : List ℕ) (n k m most : ℕ) (cs ms : List ℕ) (ek : k ≡ min n 512) (em : m ≡ min k (length found)) (er : most ≡ roomFor axes cs ms) where

@@ -9,7 +9,7 @@ ghost use Rattle.words.specs.Words.{words};
 ghost use Rattle.trees.specs.Pieces.{bytes, coordinates, roomFor};
 ghost use Rattle.trees.specs.Pieces as pieces;
 ghost use Rattle.trees.specs.Points.{pointAt};
-ghost use Rattle.answers.specs.Handed.{Handed};
+ghost use Rattle.trees.specs.Handed.{Handed};
 use floats::to_bits;
 use words::get;
 use words::get_float;

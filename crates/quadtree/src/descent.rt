@@ -69,7 +69,7 @@ fn same_at(points: &[u8], p: u32, point: Point2D, mark: u32) -> bool
 }
 
 // The first place of a list whose point is equal.
-fn find_in(links: &[u8], points: &[u8], head: u32, point: Point2D, mark: u32) -> Spot
+pub fn find_in(links: &[u8], points: &[u8], head: u32, point: Point2D, mark: u32) -> Spot
     ensures { λ r. ⌜ record { place = r .place; before = r .before } ≡ seek (λ p. same (record { at = place2 point; payload = mark }) (pointAt 2 (words (now (points .entry))) p)) (chain (length (words (now (links .entry)))) (words (now (links .entry))) head) 0 ⌝ }
 {
     let mut left = links.len() / 4;

@@ -7,6 +7,7 @@ pub mod Heads
 pub mod Held
 pub mod Inserts
 pub mod Puts
+pub mod Queries
 pub mod Seeks
 pub mod Tables
 pub mod Turns

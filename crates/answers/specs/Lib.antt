@@ -1,2 +1,0 @@
--- What is handed over. Definitions only.
-pub mod Handed
