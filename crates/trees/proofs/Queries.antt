@@ -9,7 +9,7 @@ use lib.Dec.{T, eqb}
 use lib.Ieee.{Float, binary64, le, lt, mul}
 use lib.ListN.{length, getD, take, drop, length-append, length-map}
 use lib.Seq.{sets, take-all, take-at}
-use borrow.Author.Tests.{le-leb}
+use borrow.Author.Tests.{eq-eqb, le-leb, ne-eqb}
 use Rattle.floats.specs.Values.{plusZero}
 use Rattle.model.specs.Boxes.{Side, inside, meets, nodeDistance, part, route, squared}
 use Rattle.model.specs.Calls.{Ask, Box, Contains, IsEmpty, Kind, Len, Nearest, Outcome, Plan, Radius, ask, call, done, noRoom, number, refuse, searchCall, step, tree, ways}
@@ -198,25 +198,34 @@ module _ (k : Kind) (s : Pieces) where
   unfolding AsksHeld step call ask number
   len-told r e = held-by (λ a. Tells (step k (tree a) (Ask Len)) 0 r) (λ t fl fp f h. record { reply = refl; figure = e ∙ size-read k s t fl fp f h ∙ sym (size-held k s t fl fp f h) })
 
-  pub empty-told : (n r : ℕ) → n ≡ getD (words (s .nodes)) (4 * 1 + 3) 0 → r ≡ cond (eqb n 0) 1 0 → AsksHeld k IsEmpty s 0 r
+  empty-told : (n r : ℕ) → n ≡ getD (words (s .nodes)) (4 * 1 + 3) 0 → r ≡ cond (eqb n 0) 1 0 → AsksHeld k IsEmpty s 0 r
   unfolding AsksHeld step call ask number
   empty-told n r e er = held-by (λ a. Tells (step k (tree a) (Ask IsEmpty)) 0 r) (λ t fl fp f h. record { reply = refl; figure = er ∙ ap (λ (m : ℕ). cond (eqb m 0) 1 0) (e ∙ size-read k s t fl fp f h ∙ sym (size-held k s t fl fp f h)) })
 
-  module _ (p : Point) (b : List Side) (i : Bool) (eb : b ≡ boundaryOf (k .axes) (words (s .head))) (ei : i ≡ inside b (p .at)) where
-    pub contains-outside : i ≡ false → AsksHeld k (Contains p) s 0 0
+  pub empty-yes : (n : ℕ) → n ≡ getD (words (s .nodes)) (4 * 1 + 3) 0 → n ≡ 0 → AsksHeld k IsEmpty s 0 1
+  empty-yes n e z = empty-told n 1 e (sym (ap (λ (u : Bool). cond u 1 0) (eq-eqb n 0 z)))
+
+  pub empty-no : (n : ℕ) → n ≡ getD (words (s .nodes)) (4 * 1 + 3) 0 → n ≢ 0 → AsksHeld k IsEmpty s 0 0
+  empty-no n e z = empty-told n 0 e (sym (ap (λ (u : Bool). cond u 1 0) (ne-eqb n 0 z)))
+
+  module _ (p : Point) (b : List Side) (eb : b ≡ boundaryOf (k .axes) (words (s .head))) where
+    pub contains-outside : inside b (p .at) ≡ false → AsksHeld k (Contains p) s 0 0
     unfolding AsksHeld step call ask number
     contains-outside o = held-by (λ a. Tells (step k (tree a) (Ask (Contains p))) 0 0)
-        (λ t fl fp f h. record { reply = refl; figure = sym (ap (λ (u : Bool). cond u 1 0) (outside-no 32 (planOf k s t .boundary) p (planOf k s t .root) (ap (λ (c : List Side). inside c (p .at)) (sym eb) ∙ sym ei ∙ o))) })
+        (λ t fl fp f h. record { reply = refl; figure = sym (ap (λ (u : Bool). cond u 1 0) (outside-no 32 (planOf k s t .boundary) p (planOf k s t .root) (ap (λ (c : List Side). inside c (p .at)) (sym eb) ∙ o))) })
 
-    pub contains-told : (sp : Spot) (hd : ℕ) (pl : Place) (r : ℕ) → F64Point p → i ≡ true → sp ≡ reach (ways k) (words (s .nodes)) (p .at) 32 b 1 → hd ≡ getD (words (s .nodes)) (4 * sp .node + 1) 0
-        → pl ≡ finds.seek (λ q. same p (pointAt (k .axes) (words (s .points)) q)) (chain (length (words (s .links))) (words (s .links)) hd) 0 → r ≡ cond (eqb (pl .place) 0) 0 1 → AsksHeld k (Contains p) s 0 r
-    unfolding AsksHeld step call ask number
-    contains-told sp hd pl r num o esp ehd epl er = held-by (λ a. Tells (step k (tree a) (Ask (Contains p))) 0 r)
-        (λ t fl fp f h. record { reply = refl; figure = er ∙ turned (eqb (pl .place) 0) ∙ sym (ap (λ (u : Bool). cond u 1 0) (contains-found k s t fl fp f h p b sp hd pl num eb (sym ei ∙ o) esp ehd epl)) })
-      where
-        turned : (u : Bool) → _≡_ {A = ℕ} (cond u 0 1) (cond (not u) 1 0)
-        turned true = refl
-        turned false = refl
+    module _ (sp : Spot) (hd : ℕ) (pl : Place) (num : F64Point p) (isin : inside b (p .at) ≡ true) (esp : sp ≡ reach (ways k) (words (s .nodes)) (p .at) 32 b 1) (ehd : hd ≡ getD (words (s .nodes)) (4 * sp .node + 1) 0)
+        (epl : pl ≡ finds.seek (λ q. same p (pointAt (k .axes) (words (s .points)) q)) (chain (length (words (s .links))) (words (s .links)) hd) 0) where
+      contains-told : (r : ℕ) → r ≡ cond (not (eqb (pl .place) 0)) 1 0 → AsksHeld k (Contains p) s 0 r
+      unfolding AsksHeld step call ask number
+      contains-told r er = held-by (λ a. Tells (step k (tree a) (Ask (Contains p))) 0 r)
+          (λ t fl fp f h. record { reply = refl; figure = er ∙ sym (ap (λ (u : Bool). cond u 1 0) (contains-found k s t fl fp f h p b sp hd pl num eb isin esp ehd epl)) })
+
+      pub contains-no : pl .place ≡ 0 → AsksHeld k (Contains p) s 0 0
+      contains-no z = contains-told 0 (sym (ap (λ (u : Bool). cond (not u) 1 0) (eq-eqb (pl .place) 0 z)))
+
+      pub contains-yes : pl .place ≢ 0 → AsksHeld k (Contains p) s 0 1
+      contains-yes z = contains-told 1 (sym (ap (λ (u : Bool). cond (not u) 1 0) (ne-eqb (pl .place) 0 z)))
 
   -- ---- searches
   module _ (cs ms : List ℕ) (room : ℕ) where
