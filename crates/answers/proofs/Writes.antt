@@ -55,13 +55,13 @@ pub record Writing (whole start : List ℕ) (k : ℕ) (rest now : List ℕ) (j :
   pub left : sets now j rest ≡ sets start k whole
 
 module _ (whole start : List ℕ) (k : ℕ) where
-  pub writing-start : Writing whole start k whole start k
+  writing-start : Writing whole start k whole start k
   writing-start = record { same = refl; left = refl }
 
-  pub writing-step : (l rest now now' : List ℕ) (j j' : ℕ) → Writing whole start k (l ++ rest) now j → length now' ≡ length now → now' ≡ sets now j l → j' ≡ j + length l → Writing whole start k rest now' j'
+  writing-step : (l rest now now' : List ℕ) (j j' : ℕ) → Writing whole start k (l ++ rest) now j → length now' ≡ length now → now' ≡ sets now j l → j' ≡ j + length l → Writing whole start k rest now' j'
   writing-step l rest now now' j j' w e en ej = record { same = e ∙ w .same; left = ap₂ (λ (s : List ℕ) (i : ℕ). sets s i rest) en ej ∙ sym (sets-append l rest now j) ∙ w .left }
 
-  pub writing-end : (now : List ℕ) (j : ℕ) → Writing whole start k [] now j → now ≡ sets start k whole
+  writing-end : (now : List ℕ) (j : ℕ) → Writing whole start k [] now j → now ≡ sets start k whole
   writing-end now j w = w .left
 
 -- ---- the floats of a point

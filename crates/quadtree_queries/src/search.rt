@@ -57,9 +57,9 @@ pub fn range_search_bbox(
         width,
         height,
     };
-    let question = Question::Box(query);
+    let area = Question::Box(query);
     let mut found: [u32; 512] = [0; 512];
-    let n = collect(nodes, links, points, 1, bounds, 32, question, &mut found, 0);
+    let n = collect(nodes, links, points, 1, bounds, 32, area, &mut found, 0);
     answer(2, points, &found, n, coords, payloads)
 }
 

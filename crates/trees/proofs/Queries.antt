@@ -2,12 +2,12 @@
 use mathlib.Core.Path.{_≡_, refl, ap, ap₂, sym, _∙_, subst}
 use mathlib.Core.Logic.{_≢_}
 use mathlib.Core.Bool.{Bool, true, false, not, _&&_, cond}
-use mathlib.Core.List.{List, [], _∷_, _++_, map, flatten, zipWith}
+use mathlib.Core.List.{List, [], _∷_, map, flatten, zipWith}
 use Prim.Native.Nat.{ℕ, zero, suc, _+_, _*_, _^_, _<_, _≤_, min}
 use native.Mathlib.Omega.{arith}
 use lib.Dec.{T, eqb}
 use lib.Ieee.{Float, binary64, le, lt, mul}
-use lib.ListN.{length, getD, take, drop, length-append, length-map}
+use lib.ListN.{length, getD, take, drop, length-append}
 use lib.Seq.{sets, take-all, take-at}
 use borrow.Author.Tests.{eq-eqb, le-leb, ne-eqb}
 use Rattle.floats.specs.Values.{plusZero}
@@ -16,12 +16,12 @@ use Rattle.model.specs.Calls.{Ask, Box, Contains, IsEmpty, Kind, Len, Nearest, 
 use Rattle.model.specs.Searches.{At, Entry, box, entry, keep, near, nearest, offer, offerEach, radius, visit, within, worst}
 use Rattle.model.specs.Soundness.{All, Sound}
 use Rattle.model.specs.Trees.{Point, Tree, bag, branch, contains, held, leaf, same, some?, without}
-use Rattle.model.proofs.Counts.{keep-length, part-length, route-lt}
+use Rattle.model.proofs.Counts.{keep-length, route-lt}
 use Rattle.model.proofs.Inside.{F64, F64Side}
 use Rattle.model.proofs.Lists.{mapi}
 use Rattle.model.proofs.Nearest.{nearest-walk, seek}
 use Rattle.model.proofs.Same.{contains-is}
-use Rattle.model.proofs.Short.{containsS, filled, first}
+use Rattle.model.proofs.Short.{containsS, filled}
 use Rattle.model.proofs.Skip.{box-walk, radius-walk, walk}
 use Rattle.model.proofs.Sound.{F64Point, placed}
 use Rattle.model.proofs.Theorems.{skip-box, skip-nearest, skip-radius}
@@ -42,7 +42,7 @@ use Rattle.trees.specs.Handed.{Handed}
 use Rattle.trees.specs.Points.{pointAt}
 use Rattle.trees.proofs.Collects.{Collects}
 use Rattle.trees.proofs.Descents.{Found, Spot, listAt, reach, reach-found, taken-at}
-use Rattle.trees.proofs.Finds.{Place, equal, seek-filled}
+use Rattle.trees.proofs.Finds.{Place, seek-filled}
 use Rattle.trees.proofs.Finds as finds
 use Rattle.trees.proofs.Held.{Held, places-held, plan-numbers, size-held, size-read, whole}
 use Rattle.trees.proofs.Seeks.{seek-erase, seekP}
