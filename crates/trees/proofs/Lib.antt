@@ -12,6 +12,7 @@ pub mod Held
 pub mod Inserts
 pub mod Marks
 pub mod Puts
+pub mod Queries
 pub mod Removals
 pub mod Seeks
 pub mod Soundness

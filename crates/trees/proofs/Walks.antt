@@ -59,16 +59,17 @@ pub record Notes (l : List ℕ) (out : List ℕ) (n : ℕ) (out' : List ℕ) (r 
 pub notes-none : (out : List ℕ) (n : ℕ) → Notes [] out n out n
 notes-none out n = record { count = λ h. omega arith; written = λ h. refl }
 
+-- numbers set one list after the other
+pub sets-append : (l m out : List ℕ) (n : ℕ) → sets out n (l ++ m) ≡ sets (sets out n l) (n + length l) m
+sets-append [] m out n = ap (λ (j : ℕ). sets out j m) {x = n} {y = n + 0} (omega arith)
+sets-append (p ∷ l) m out n = sets-append l m (set out n p) (suc n) ∙ ap (λ (j : ℕ). sets (sets (set out n p) (suc n) l) j m) {x = suc n + length l} {y = n + suc (length l)} (omega arith)
+
 pub notes-then : (l m out out1 out2 : List ℕ) (n k r : ℕ) → length out1 ≡ length out → Notes l out n out1 k → Notes m out1 k out2 r → Notes (l ++ m) out n out2 r
 notes-then l m out out1 out2 n k r e a b = record {
   count = λ h. let q : k ≡ n + length l = a .count (omega (arith, h, length-append l m)) in b .count (omega (arith, h, length-append l m, q, e)) ∙ omega (arith, q, length-append l m);
   written = λ h. let q : k ≡ n + length l = a .count (omega (arith, h, length-append l m)) in
       b .written (omega (arith, h, length-append l m, q, e)) ∙ ap₂ (λ (o : List ℕ) (j : ℕ). sets o j m) (a .written (omega (arith, h, length-append l m))) q ∙ sym (sets-append l m out n);
 }
-  where
-    sets-append : (l m out : List ℕ) (n : ℕ) → sets out n (l ++ m) ≡ sets (sets out n l) (n + length l) m
-    sets-append [] m out n = ap (λ (j : ℕ). sets out j m) {x = n} {y = n + 0} (omega arith)
-    sets-append (p ∷ l) m out n = sets-append l m (set out n p) (suc n) ∙ ap (λ (j : ℕ). sets (sets (set out n p) (suc n) l) j m) {x = suc n + length l} {y = n + suc (length l)} (omega arith)
 
 -- one place, noted or not
 module _ (out : List ℕ) (n p : ℕ) (yes : Bool) where

@@ -1,0 +1,3 @@
+// The quadtree's queries, on pieces that hold a sound tree.
+pub mod ask;
+pub mod search;
