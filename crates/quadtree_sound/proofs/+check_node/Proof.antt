@@ -1,3 +1,12 @@
+use mathlib.Core.Path.{ap, ap₂, _∙_}
+use Prim.Native.Nat.{_-_}
+use native.Mathlib.Omega.{arith}
+use lib.Dec.{eqb}
+use Rattle.words.specs.Words.{words}
+use Rattle.geometry.specs.Sides.{place2, sides2}
+use Rattle.trees.specs.Points.{pointAt}
+use Rattle.trees.proofs.Areas.{bounding, narrowed-bounding}
+use Rattle.trees.proofs.Checks.{counts, Descending, descending-start, descending-step, descending-not, descending-end, check-over, check-places, check-deep, check-few, check-taken, check-divided}
 use Prim.Native.Nat.{ℕ, _<_}
 use borrow.Fn.Kinds.{In}
 use borrow.Fn.PlainCycle.{Measures, is, falls, and}
@@ -17,981 +26,124 @@ use Rattle.sound.proofs.children_count.Reads as children-count-reads
 use Rattle.sound.proofs.claim.Reads as claim-reads
 use Rattle.quadtree_sound.proofs.+check_node.{statement}
 use Rattle.quadtree_sound.proofs.+check_node.Tie.{close}
+use borrow.Author.Needs.{needs}
 
 abbrev μ-check-node : Measures 5 check-node-kinds.ps ℕ
-μ-check-node κs a = ?
+μ-check-node κs a = a .1 .1 .1 .1 .1 .1 .1 .1 .0
 
 abbrev check-node-at : ℕ → In 5 check-node-kinds.ps
-check-node-at t =
-    and 5 check-node-kinds.ps (is 5 check-node-kinds.ps μ-check-node t) check-node.Pre
+check-node-at t = and 5 check-node-kinds.ps (is 5 check-node-kinds.ps μ-check-node t) check-node.Pre
 
 abbrev check-node-below : ℕ → In 5 check-node-kinds.ps
-check-node-below t =
-    and 5 check-node-kinds.ps (falls 5 check-node-kinds.ps _<_ μ-check-node t) check-node.Pre
+check-node-below t = and 5 check-node-kinds.ps (falls 5 check-node-kinds.ps _<_ μ-check-node t) check-node.Pre
+
+abbrev cs : ℕ → check-node-lts.Claims
+cs t = (group-reads.Asked, group-reads.Learnt, count-reads.Asked, count-reads.Learnt, first-reads.Asked, first-reads.Learnt, last-reads.Asked, last-reads.Learnt, check-list-reads.Asked, check-list-reads.Learnt, claim-reads.Asked, claim-reads.Learnt, child-reads.Asked, child-reads.Learnt, plane-Rectangle-child-reads.Asked, plane-Rectangle-child-reads.Learnt, low-part-reads.Asked, low-part-reads.Learnt, top-part-reads.Asked, top-part-reads.Learnt, check-node-below t, check-node.Post, children-count-reads.Asked, children-count-reads.Learnt)
 
 abbrev check-node-Inv-loop : check-node-lts.InvT-loop
-check-node-Inv-loop nodes links points i bounds low top edge levels capacity homes₀ used₀ g n below c₀ homes used c =
-    ?
+check-node-Inv-loop nodes links points i bounds low top edge levels capacity homes₀ used₀ g n below c₀ homes used c = Descending 4 capacity (pointAt 2 (words points)) (words nodes) (words links) below (sides2 bounds) (bounding (place2 low) (place2 top) (place2 edge)) g (eqb (counts 4 (words nodes) g 0 4) n) homes₀ used₀ c homes used
 
 abbrev check-node-μ-loop : check-node-lts.MeasureT-loop
-check-node-μ-loop nodes links points i bounds low top edge levels capacity homes₀ used₀ g n below c₀ homes used c =
-    ?
+check-node-μ-loop nodes links points i bounds low top edge levels capacity homes₀ used₀ g n below c₀ homes used c = 4 - c
 
--- src/lib.rt:127:9
-check-node-group-requires : (t : ℕ) → check-node-lts.Need-group-requires (
-  group-reads.Asked,
-  group-reads.Learnt,
-  count-reads.Asked,
-  count-reads.Learnt,
-  first-reads.Asked,
-  first-reads.Learnt,
-  last-reads.Asked,
-  last-reads.Learnt,
-  check-list-reads.Asked,
-  check-list-reads.Learnt,
-  claim-reads.Asked,
-  claim-reads.Learnt,
-  child-reads.Asked,
-  child-reads.Learnt,
-  plane-Rectangle-child-reads.Asked,
-  plane-Rectangle-child-reads.Learnt,
-  low-part-reads.Asked,
-  low-part-reads.Learnt,
-  top-part-reads.Asked,
-  top-part-reads.Learnt,
-  check-node-below t,
-  check-node.Post,
-  children-count-reads.Asked,
-  children-count-reads.Learnt,
-) (check-node-at t) check-node.Post check-node-Inv-loop check-node-μ-loop
-check-node-group-requires t c κs = ?
+check-node-group-requires : (t : ℕ) → check-node-lts.Need-group-requires (cs t) (check-node-at t) check-node.Post check-node-Inv-loop check-node-μ-loop
+check-node-group-requires t c κs = search needs
 
--- src/lib.rt:128:9
-check-node-count-requires : (t : ℕ) → check-node-lts.Need-count-requires (
-  group-reads.Asked,
-  group-reads.Learnt,
-  count-reads.Asked,
-  count-reads.Learnt,
-  first-reads.Asked,
-  first-reads.Learnt,
-  last-reads.Asked,
-  last-reads.Learnt,
-  check-list-reads.Asked,
-  check-list-reads.Learnt,
-  claim-reads.Asked,
-  claim-reads.Learnt,
-  child-reads.Asked,
-  child-reads.Learnt,
-  plane-Rectangle-child-reads.Asked,
-  plane-Rectangle-child-reads.Learnt,
-  low-part-reads.Asked,
-  low-part-reads.Learnt,
-  top-part-reads.Asked,
-  top-part-reads.Learnt,
-  check-node-below t,
-  check-node.Post,
-  children-count-reads.Asked,
-  children-count-reads.Learnt,
-) (check-node-at t) check-node.Post check-node-Inv-loop check-node-μ-loop
-check-node-count-requires t c κs = ?
+check-node-count-requires : (t : ℕ) → check-node-lts.Need-count-requires (cs t) (check-node-at t) check-node.Post check-node-Inv-loop check-node-μ-loop
+check-node-count-requires t c κs = search needs
 
--- src/lib.rt:131:13
-check-node-returns : (t : ℕ) → check-node-lts.Need-returns (
-  group-reads.Asked,
-  group-reads.Learnt,
-  count-reads.Asked,
-  count-reads.Learnt,
-  first-reads.Asked,
-  first-reads.Learnt,
-  last-reads.Asked,
-  last-reads.Learnt,
-  check-list-reads.Asked,
-  check-list-reads.Learnt,
-  claim-reads.Asked,
-  claim-reads.Learnt,
-  child-reads.Asked,
-  child-reads.Learnt,
-  plane-Rectangle-child-reads.Asked,
-  plane-Rectangle-child-reads.Learnt,
-  low-part-reads.Asked,
-  low-part-reads.Learnt,
-  top-part-reads.Asked,
-  top-part-reads.Learnt,
-  check-node-below t,
-  check-node.Post,
-  children-count-reads.Asked,
-  children-count-reads.Learnt,
-) (check-node-at t) check-node.Post check-node-Inv-loop check-node-μ-loop
-check-node-returns t c = ?
+check-node-returns : (t : ℕ) → check-node-lts.Need-returns (cs t) (check-node-at t) check-node.Post check-node-Inv-loop check-node-μ-loop
+check-node-returns t c = check-over _ _ _ _ _ _ _ _ _ _ _ _ _ _ _ (c .before .before .before .group .ensures) (c .before .before .count .ensures) (c .before .if1 .taken) (c .if2 .taken)
 
--- src/lib.rt:133:13
-check-node-first-requires : (t : ℕ) → check-node-lts.Need-first-requires (
-  group-reads.Asked,
-  group-reads.Learnt,
-  count-reads.Asked,
-  count-reads.Learnt,
-  first-reads.Asked,
-  first-reads.Learnt,
-  last-reads.Asked,
-  last-reads.Learnt,
-  check-list-reads.Asked,
-  check-list-reads.Learnt,
-  claim-reads.Asked,
-  claim-reads.Learnt,
-  child-reads.Asked,
-  child-reads.Learnt,
-  plane-Rectangle-child-reads.Asked,
-  plane-Rectangle-child-reads.Learnt,
-  low-part-reads.Asked,
-  low-part-reads.Learnt,
-  top-part-reads.Asked,
-  top-part-reads.Learnt,
-  check-node-below t,
-  check-node.Post,
-  children-count-reads.Asked,
-  children-count-reads.Learnt,
-) (check-node-at t) check-node.Post check-node-Inv-loop check-node-μ-loop
-check-node-first-requires t c κs = ?
+check-node-first-requires : (t : ℕ) → check-node-lts.Need-first-requires (cs t) (check-node-at t) check-node.Post check-node-Inv-loop check-node-μ-loop
+check-node-first-requires t c κs = search needs
 
--- src/lib.rt:134:13
-check-node-last-requires : (t : ℕ) → check-node-lts.Need-last-requires (
-  group-reads.Asked,
-  group-reads.Learnt,
-  count-reads.Asked,
-  count-reads.Learnt,
-  first-reads.Asked,
-  first-reads.Learnt,
-  last-reads.Asked,
-  last-reads.Learnt,
-  check-list-reads.Asked,
-  check-list-reads.Learnt,
-  claim-reads.Asked,
-  claim-reads.Learnt,
-  child-reads.Asked,
-  child-reads.Learnt,
-  plane-Rectangle-child-reads.Asked,
-  plane-Rectangle-child-reads.Learnt,
-  low-part-reads.Asked,
-  low-part-reads.Learnt,
-  top-part-reads.Asked,
-  top-part-reads.Learnt,
-  check-node-below t,
-  check-node.Post,
-  children-count-reads.Asked,
-  children-count-reads.Learnt,
-) (check-node-at t) check-node.Post check-node-Inv-loop check-node-μ-loop
-check-node-last-requires t c κs = ?
+check-node-last-requires : (t : ℕ) → check-node-lts.Need-last-requires (cs t) (check-node-at t) check-node.Post check-node-Inv-loop check-node-μ-loop
+check-node-last-requires t c κs = search needs
 
--- src/lib.rt:135:9
-check-node-check-list-requires : (t : ℕ) → check-node-lts.Need-check-list-requires (
-  group-reads.Asked,
-  group-reads.Learnt,
-  count-reads.Asked,
-  count-reads.Learnt,
-  first-reads.Asked,
-  first-reads.Learnt,
-  last-reads.Asked,
-  last-reads.Learnt,
-  check-list-reads.Asked,
-  check-list-reads.Learnt,
-  claim-reads.Asked,
-  claim-reads.Learnt,
-  child-reads.Asked,
-  child-reads.Learnt,
-  plane-Rectangle-child-reads.Asked,
-  plane-Rectangle-child-reads.Learnt,
-  low-part-reads.Asked,
-  low-part-reads.Learnt,
-  top-part-reads.Asked,
-  top-part-reads.Learnt,
-  check-node-below t,
-  check-node.Post,
-  children-count-reads.Asked,
-  children-count-reads.Learnt,
-) (check-node-at t) check-node.Post check-node-Inv-loop check-node-μ-loop
-check-node-check-list-requires t c κs = ?
+check-node-check-list-requires : (t : ℕ) → check-node-lts.Need-check-list-requires (cs t) (check-node-at t) check-node.Post check-node-Inv-loop check-node-μ-loop
+check-node-check-list-requires t c κs = search needs
 
--- src/lib.rt:135:9
-check-node-same-length : (t : ℕ) → check-node-lts.Need-same-length (
-  group-reads.Asked,
-  group-reads.Learnt,
-  count-reads.Asked,
-  count-reads.Learnt,
-  first-reads.Asked,
-  first-reads.Learnt,
-  last-reads.Asked,
-  last-reads.Learnt,
-  check-list-reads.Asked,
-  check-list-reads.Learnt,
-  claim-reads.Asked,
-  claim-reads.Learnt,
-  child-reads.Asked,
-  child-reads.Learnt,
-  plane-Rectangle-child-reads.Asked,
-  plane-Rectangle-child-reads.Learnt,
-  low-part-reads.Asked,
-  low-part-reads.Learnt,
-  top-part-reads.Asked,
-  top-part-reads.Learnt,
-  check-node-below t,
-  check-node.Post,
-  children-count-reads.Asked,
-  children-count-reads.Learnt,
-) (check-node-at t) check-node.Post check-node-Inv-loop check-node-μ-loop
-check-node-same-length t c = ?
+check-node-same-length : (t : ℕ) → check-node-lts.Need-same-length (cs t) (check-node-at t) check-node.Post check-node-Inv-loop check-node-μ-loop
+check-node-same-length t c = search needs
 
--- src/lib.rt:135:9
-check-node-returns-2 : (t : ℕ) → check-node-lts.Need-returns-2 (
-  group-reads.Asked,
-  group-reads.Learnt,
-  count-reads.Asked,
-  count-reads.Learnt,
-  first-reads.Asked,
-  first-reads.Learnt,
-  last-reads.Asked,
-  last-reads.Learnt,
-  check-list-reads.Asked,
-  check-list-reads.Learnt,
-  claim-reads.Asked,
-  claim-reads.Learnt,
-  child-reads.Asked,
-  child-reads.Learnt,
-  plane-Rectangle-child-reads.Asked,
-  plane-Rectangle-child-reads.Learnt,
-  low-part-reads.Asked,
-  low-part-reads.Learnt,
-  top-part-reads.Asked,
-  top-part-reads.Learnt,
-  check-node-below t,
-  check-node.Post,
-  children-count-reads.Asked,
-  children-count-reads.Learnt,
-) (check-node-at t) check-node.Post check-node-Inv-loop check-node-μ-loop
-check-node-returns-2 t c = ?
+check-node-returns-2 : (t : ℕ) → check-node-lts.Need-returns-2 (cs t) (check-node-at t) check-node.Post check-node-Inv-loop check-node-μ-loop
+check-node-returns-2 t c = check-places _ _ _ _ _ _ _ _ _ _ _ _ _ _ _ _ _ (c .before .before .before .before .before .before .before .before .before .group .ensures) (c .before .before .before .before .before .before .before .before .count .ensures) (c .before .before .before .before .before .before .before .if1 .taken) (c .before .before .before .before .before .before .if2 .left) (c .before .before .before .before .before .first .ensures) (c .before .before .before .before .last .ensures) (c .before .before .check-list .ensures)
 
--- src/lib.rt:138:9
-check-node-returns-3 : (t : ℕ) → check-node-lts.Need-returns-3 (
-  group-reads.Asked,
-  group-reads.Learnt,
-  count-reads.Asked,
-  count-reads.Learnt,
-  first-reads.Asked,
-  first-reads.Learnt,
-  last-reads.Asked,
-  last-reads.Learnt,
-  check-list-reads.Asked,
-  check-list-reads.Learnt,
-  claim-reads.Asked,
-  claim-reads.Learnt,
-  child-reads.Asked,
-  child-reads.Learnt,
-  plane-Rectangle-child-reads.Asked,
-  plane-Rectangle-child-reads.Learnt,
-  low-part-reads.Asked,
-  low-part-reads.Learnt,
-  top-part-reads.Asked,
-  top-part-reads.Learnt,
-  check-node-below t,
-  check-node.Post,
-  children-count-reads.Asked,
-  children-count-reads.Learnt,
-) (check-node-at t) check-node.Post check-node-Inv-loop check-node-μ-loop
-check-node-returns-3 t c = ?
+check-node-returns-3 : (t : ℕ) → check-node-lts.Need-returns-3 (cs t) (check-node-at t) check-node.Post check-node-Inv-loop check-node-μ-loop
+check-node-returns-3 t c = check-deep _ _ _ _ _ _ _ _ _ _ _ _ _ _ (c .before .before .before .group .ensures) (c .before .if1 .left) (c .if3 .taken)
 
--- src/lib.rt:141:9
-check-node-returns-4 : (t : ℕ) → check-node-lts.Need-returns-4 (
-  group-reads.Asked,
-  group-reads.Learnt,
-  count-reads.Asked,
-  count-reads.Learnt,
-  first-reads.Asked,
-  first-reads.Learnt,
-  last-reads.Asked,
-  last-reads.Learnt,
-  check-list-reads.Asked,
-  check-list-reads.Learnt,
-  claim-reads.Asked,
-  claim-reads.Learnt,
-  child-reads.Asked,
-  child-reads.Learnt,
-  plane-Rectangle-child-reads.Asked,
-  plane-Rectangle-child-reads.Learnt,
-  low-part-reads.Asked,
-  low-part-reads.Learnt,
-  top-part-reads.Asked,
-  top-part-reads.Learnt,
-  check-node-below t,
-  check-node.Post,
-  children-count-reads.Asked,
-  children-count-reads.Learnt,
-) (check-node-at t) check-node.Post check-node-Inv-loop check-node-μ-loop
-check-node-returns-4 t c = ?
+check-node-returns-4 : (t : ℕ) → check-node-lts.Need-returns-4 (cs t) (check-node-at t) check-node.Post check-node-Inv-loop check-node-μ-loop
+check-node-returns-4 t c = check-few _ _ _ _ _ _ _ _ _ _ _ _ _ _ _ (omega arith) (c .before .before .before .before .group .ensures) (c .before .before .before .count .ensures) (c .before .before .if1 .left) (c .if4 .taken)
 
--- src/lib.rt:143:9
-check-node-claim-requires : (t : ℕ) → check-node-lts.Need-claim-requires (
-  group-reads.Asked,
-  group-reads.Learnt,
-  count-reads.Asked,
-  count-reads.Learnt,
-  first-reads.Asked,
-  first-reads.Learnt,
-  last-reads.Asked,
-  last-reads.Learnt,
-  check-list-reads.Asked,
-  check-list-reads.Learnt,
-  claim-reads.Asked,
-  claim-reads.Learnt,
-  child-reads.Asked,
-  child-reads.Learnt,
-  plane-Rectangle-child-reads.Asked,
-  plane-Rectangle-child-reads.Learnt,
-  low-part-reads.Asked,
-  low-part-reads.Learnt,
-  top-part-reads.Asked,
-  top-part-reads.Learnt,
-  check-node-below t,
-  check-node.Post,
-  children-count-reads.Asked,
-  children-count-reads.Learnt,
-) (check-node-at t) check-node.Post check-node-Inv-loop check-node-μ-loop
-check-node-claim-requires t c κs = ?
+check-node-claim-requires : (t : ℕ) → check-node-lts.Need-claim-requires (cs t) (check-node-at t) check-node.Post check-node-Inv-loop check-node-μ-loop
+check-node-claim-requires t c κs = search needs
 
--- src/lib.rt:144:9
-check-node-same-length-2 : (t : ℕ) → check-node-lts.Need-same-length-2 (
-  group-reads.Asked,
-  group-reads.Learnt,
-  count-reads.Asked,
-  count-reads.Learnt,
-  first-reads.Asked,
-  first-reads.Learnt,
-  last-reads.Asked,
-  last-reads.Learnt,
-  check-list-reads.Asked,
-  check-list-reads.Learnt,
-  claim-reads.Asked,
-  claim-reads.Learnt,
-  child-reads.Asked,
-  child-reads.Learnt,
-  plane-Rectangle-child-reads.Asked,
-  plane-Rectangle-child-reads.Learnt,
-  low-part-reads.Asked,
-  low-part-reads.Learnt,
-  top-part-reads.Asked,
-  top-part-reads.Learnt,
-  check-node-below t,
-  check-node.Post,
-  children-count-reads.Asked,
-  children-count-reads.Learnt,
-) (check-node-at t) check-node.Post check-node-Inv-loop check-node-μ-loop
-check-node-same-length-2 t c = ?
+check-node-same-length-2 : (t : ℕ) → check-node-lts.Need-same-length-2 (cs t) (check-node-at t) check-node.Post check-node-Inv-loop check-node-μ-loop
+check-node-same-length-2 t c = search needs
 
--- src/lib.rt:144:9
-check-node-returns-5 : (t : ℕ) → check-node-lts.Need-returns-5 (
-  group-reads.Asked,
-  group-reads.Learnt,
-  count-reads.Asked,
-  count-reads.Learnt,
-  first-reads.Asked,
-  first-reads.Learnt,
-  last-reads.Asked,
-  last-reads.Learnt,
-  check-list-reads.Asked,
-  check-list-reads.Learnt,
-  claim-reads.Asked,
-  claim-reads.Learnt,
-  child-reads.Asked,
-  child-reads.Learnt,
-  plane-Rectangle-child-reads.Asked,
-  plane-Rectangle-child-reads.Learnt,
-  low-part-reads.Asked,
-  low-part-reads.Learnt,
-  top-part-reads.Asked,
-  top-part-reads.Learnt,
-  check-node-below t,
-  check-node.Post,
-  children-count-reads.Asked,
-  children-count-reads.Learnt,
-) (check-node-at t) check-node.Post check-node-Inv-loop check-node-μ-loop
-check-node-returns-5 t c = ?
+check-node-returns-5 : (t : ℕ) → check-node-lts.Need-returns-5 (cs t) (check-node-at t) check-node.Post check-node-Inv-loop check-node-μ-loop
+check-node-returns-5 t c = check-taken _ _ _ _ _ _ _ _ _ _ _ _ _ _ _ _ _ (omega arith) (c .before .before .before .before .before .before .before .before .before .group .ensures) (c .before .before .before .before .before .before .before .before .count .ensures) (c .before .before .before .before .before .before .before .if1 .left) (c .before .before .before .claim .ensures) (c .if5 .taken)
 
--- src/lib.rt:146:17
-check-node-sub-below : (t : ℕ) → check-node-lts.Need-sub-below (
-  group-reads.Asked,
-  group-reads.Learnt,
-  count-reads.Asked,
-  count-reads.Learnt,
-  first-reads.Asked,
-  first-reads.Learnt,
-  last-reads.Asked,
-  last-reads.Learnt,
-  check-list-reads.Asked,
-  check-list-reads.Learnt,
-  claim-reads.Asked,
-  claim-reads.Learnt,
-  child-reads.Asked,
-  child-reads.Learnt,
-  plane-Rectangle-child-reads.Asked,
-  plane-Rectangle-child-reads.Learnt,
-  low-part-reads.Asked,
-  low-part-reads.Learnt,
-  top-part-reads.Asked,
-  top-part-reads.Learnt,
-  check-node-below t,
-  check-node.Post,
-  children-count-reads.Asked,
-  children-count-reads.Learnt,
-) (check-node-at t) check-node.Post check-node-Inv-loop check-node-μ-loop
-check-node-sub-below t c = ?
+check-node-sub-below : (t : ℕ) → check-node-lts.Need-sub-below (cs t) (check-node-at t) check-node.Post check-node-Inv-loop check-node-μ-loop
+check-node-sub-below t c = search needs
 
--- src/lib.rt:148:5
-check-node-loop-holds : (t : ℕ) → check-node-lts.Need-loop-holds (
-  group-reads.Asked,
-  group-reads.Learnt,
-  count-reads.Asked,
-  count-reads.Learnt,
-  first-reads.Asked,
-  first-reads.Learnt,
-  last-reads.Asked,
-  last-reads.Learnt,
-  check-list-reads.Asked,
-  check-list-reads.Learnt,
-  claim-reads.Asked,
-  claim-reads.Learnt,
-  child-reads.Asked,
-  child-reads.Learnt,
-  plane-Rectangle-child-reads.Asked,
-  plane-Rectangle-child-reads.Learnt,
-  low-part-reads.Asked,
-  low-part-reads.Learnt,
-  top-part-reads.Asked,
-  top-part-reads.Learnt,
-  check-node-below t,
-  check-node.Post,
-  children-count-reads.Asked,
-  children-count-reads.Learnt,
-) (check-node-at t) check-node.Post check-node-Inv-loop check-node-μ-loop
-check-node-loop-holds t c = ?
+check-node-loop-holds : (t : ℕ) → check-node-lts.Need-loop-holds (cs t) (check-node-at t) check-node.Post check-node-Inv-loop check-node-μ-loop
+check-node-loop-holds t c = descending-start _ _ _ _ _ _ _ _ _ _ _ _
 
--- src/lib.rt:149:13
-check-node-child-requires : (t : ℕ) → check-node-lts.Need-child-requires (
-  group-reads.Asked,
-  group-reads.Learnt,
-  count-reads.Asked,
-  count-reads.Learnt,
-  first-reads.Asked,
-  first-reads.Learnt,
-  last-reads.Asked,
-  last-reads.Learnt,
-  check-list-reads.Asked,
-  check-list-reads.Learnt,
-  claim-reads.Asked,
-  claim-reads.Learnt,
-  child-reads.Asked,
-  child-reads.Learnt,
-  plane-Rectangle-child-reads.Asked,
-  plane-Rectangle-child-reads.Learnt,
-  low-part-reads.Asked,
-  low-part-reads.Learnt,
-  top-part-reads.Asked,
-  top-part-reads.Learnt,
-  check-node-below t,
-  check-node.Post,
-  children-count-reads.Asked,
-  children-count-reads.Learnt,
-) (check-node-at t) check-node.Post check-node-Inv-loop check-node-μ-loop
-check-node-child-requires t c κs = ?
+check-node-child-requires : (t : ℕ) → check-node-lts.Need-child-requires (cs t) (check-node-at t) check-node.Post check-node-Inv-loop check-node-μ-loop
+check-node-child-requires t c κs = search needs
 
--- src/lib.rt:150:33
-check-node-cast-child : (t : ℕ) → check-node-lts.Need-cast-child (
-  group-reads.Asked,
-  group-reads.Learnt,
-  count-reads.Asked,
-  count-reads.Learnt,
-  first-reads.Asked,
-  first-reads.Learnt,
-  last-reads.Asked,
-  last-reads.Learnt,
-  check-list-reads.Asked,
-  check-list-reads.Learnt,
-  claim-reads.Asked,
-  claim-reads.Learnt,
-  child-reads.Asked,
-  child-reads.Learnt,
-  plane-Rectangle-child-reads.Asked,
-  plane-Rectangle-child-reads.Learnt,
-  low-part-reads.Asked,
-  low-part-reads.Learnt,
-  top-part-reads.Asked,
-  top-part-reads.Learnt,
-  check-node-below t,
-  check-node.Post,
-  children-count-reads.Asked,
-  children-count-reads.Learnt,
-) (check-node-at t) check-node.Post check-node-Inv-loop check-node-μ-loop
-check-node-cast-child t c = ?
+check-node-cast-child : (t : ℕ) → check-node-lts.Need-cast-child (cs t) (check-node-at t) check-node.Post check-node-Inv-loop check-node-μ-loop
+check-node-cast-child t c = search needs
 
--- src/lib.rt:150:13
-check-node-child-requires-2 : (t : ℕ) → check-node-lts.Need-child-requires-2 (
-  group-reads.Asked,
-  group-reads.Learnt,
-  count-reads.Asked,
-  count-reads.Learnt,
-  first-reads.Asked,
-  first-reads.Learnt,
-  last-reads.Asked,
-  last-reads.Learnt,
-  check-list-reads.Asked,
-  check-list-reads.Learnt,
-  claim-reads.Asked,
-  claim-reads.Learnt,
-  child-reads.Asked,
-  child-reads.Learnt,
-  plane-Rectangle-child-reads.Asked,
-  plane-Rectangle-child-reads.Learnt,
-  low-part-reads.Asked,
-  low-part-reads.Learnt,
-  top-part-reads.Asked,
-  top-part-reads.Learnt,
-  check-node-below t,
-  check-node.Post,
-  children-count-reads.Asked,
-  children-count-reads.Learnt,
-) (check-node-at t) check-node.Post check-node-Inv-loop check-node-μ-loop
-check-node-child-requires-2 t c κs = ?
+check-node-child-requires-2 : (t : ℕ) → check-node-lts.Need-child-requires-2 (cs t) (check-node-at t) check-node.Post check-node-Inv-loop check-node-μ-loop
+check-node-child-requires-2 t c κs = search needs
 
--- src/lib.rt:151:13
-check-node-low-part-requires : (t : ℕ) → check-node-lts.Need-low-part-requires (
-  group-reads.Asked,
-  group-reads.Learnt,
-  count-reads.Asked,
-  count-reads.Learnt,
-  first-reads.Asked,
-  first-reads.Learnt,
-  last-reads.Asked,
-  last-reads.Learnt,
-  check-list-reads.Asked,
-  check-list-reads.Learnt,
-  claim-reads.Asked,
-  claim-reads.Learnt,
-  child-reads.Asked,
-  child-reads.Learnt,
-  plane-Rectangle-child-reads.Asked,
-  plane-Rectangle-child-reads.Learnt,
-  low-part-reads.Asked,
-  low-part-reads.Learnt,
-  top-part-reads.Asked,
-  top-part-reads.Learnt,
-  check-node-below t,
-  check-node.Post,
-  children-count-reads.Asked,
-  children-count-reads.Learnt,
-) (check-node-at t) check-node.Post check-node-Inv-loop check-node-μ-loop
-check-node-low-part-requires t c κs = ?
+check-node-low-part-requires : (t : ℕ) → check-node-lts.Need-low-part-requires (cs t) (check-node-at t) check-node.Post check-node-Inv-loop check-node-μ-loop
+check-node-low-part-requires t c κs = search needs
 
--- src/lib.rt:152:13
-check-node-top-part-requires : (t : ℕ) → check-node-lts.Need-top-part-requires (
-  group-reads.Asked,
-  group-reads.Learnt,
-  count-reads.Asked,
-  count-reads.Learnt,
-  first-reads.Asked,
-  first-reads.Learnt,
-  last-reads.Asked,
-  last-reads.Learnt,
-  check-list-reads.Asked,
-  check-list-reads.Learnt,
-  claim-reads.Asked,
-  claim-reads.Learnt,
-  child-reads.Asked,
-  child-reads.Learnt,
-  plane-Rectangle-child-reads.Asked,
-  plane-Rectangle-child-reads.Learnt,
-  low-part-reads.Asked,
-  low-part-reads.Learnt,
-  top-part-reads.Asked,
-  top-part-reads.Learnt,
-  check-node-below t,
-  check-node.Post,
-  children-count-reads.Asked,
-  children-count-reads.Learnt,
-) (check-node-at t) check-node.Post check-node-Inv-loop check-node-μ-loop
-check-node-top-part-requires t c κs = ?
+check-node-top-part-requires : (t : ℕ) → check-node-lts.Need-top-part-requires (cs t) (check-node-at t) check-node.Post check-node-Inv-loop check-node-μ-loop
+check-node-top-part-requires t c κs = search needs
 
--- src/lib.rt:153:13
-check-node-check-node-requires : (t : ℕ) → check-node-lts.Need-check-node-requires (
-  group-reads.Asked,
-  group-reads.Learnt,
-  count-reads.Asked,
-  count-reads.Learnt,
-  first-reads.Asked,
-  first-reads.Learnt,
-  last-reads.Asked,
-  last-reads.Learnt,
-  check-list-reads.Asked,
-  check-list-reads.Learnt,
-  claim-reads.Asked,
-  claim-reads.Learnt,
-  child-reads.Asked,
-  child-reads.Learnt,
-  plane-Rectangle-child-reads.Asked,
-  plane-Rectangle-child-reads.Learnt,
-  low-part-reads.Asked,
-  low-part-reads.Learnt,
-  top-part-reads.Asked,
-  top-part-reads.Learnt,
-  check-node-below t,
-  check-node.Post,
-  children-count-reads.Asked,
-  children-count-reads.Learnt,
-) (check-node-at t) check-node.Post check-node-Inv-loop check-node-μ-loop
-check-node-check-node-requires t c κs = ?
+check-node-check-node-requires : (t : ℕ) → check-node-lts.Need-check-node-requires (cs t) (check-node-at t) check-node.Post check-node-Inv-loop check-node-μ-loop
+check-node-check-node-requires t c κs = (omega (arith, c .before .before .before .before .before .before .before .before .before .before .before .before .before .before .before .before .before .before .before .before .before .before .before .pre .0, c .before .before .before .before .before .before .before .before .before .before .before .before .before .before .if3 .left), tt)
 
--- src/lib.rt:167:13
-check-node-same-length-3 : (t : ℕ) → check-node-lts.Need-same-length-3 (
-  group-reads.Asked,
-  group-reads.Learnt,
-  count-reads.Asked,
-  count-reads.Learnt,
-  first-reads.Asked,
-  first-reads.Learnt,
-  last-reads.Asked,
-  last-reads.Learnt,
-  check-list-reads.Asked,
-  check-list-reads.Learnt,
-  claim-reads.Asked,
-  claim-reads.Learnt,
-  child-reads.Asked,
-  child-reads.Learnt,
-  plane-Rectangle-child-reads.Asked,
-  plane-Rectangle-child-reads.Learnt,
-  low-part-reads.Asked,
-  low-part-reads.Learnt,
-  top-part-reads.Asked,
-  top-part-reads.Learnt,
-  check-node-below t,
-  check-node.Post,
-  children-count-reads.Asked,
-  children-count-reads.Learnt,
-) (check-node-at t) check-node.Post check-node-Inv-loop check-node-μ-loop
-check-node-same-length-3 t c = ?
+check-node-same-length-3 : (t : ℕ) → check-node-lts.Need-same-length-3 (cs t) (check-node-at t) check-node.Post check-node-Inv-loop check-node-μ-loop
+check-node-same-length-3 t c = search needs
 
--- src/lib.rt:167:13
-check-node-same-length-4 : (t : ℕ) → check-node-lts.Need-same-length-4 (
-  group-reads.Asked,
-  group-reads.Learnt,
-  count-reads.Asked,
-  count-reads.Learnt,
-  first-reads.Asked,
-  first-reads.Learnt,
-  last-reads.Asked,
-  last-reads.Learnt,
-  check-list-reads.Asked,
-  check-list-reads.Learnt,
-  claim-reads.Asked,
-  claim-reads.Learnt,
-  child-reads.Asked,
-  child-reads.Learnt,
-  plane-Rectangle-child-reads.Asked,
-  plane-Rectangle-child-reads.Learnt,
-  low-part-reads.Asked,
-  low-part-reads.Learnt,
-  top-part-reads.Asked,
-  top-part-reads.Learnt,
-  check-node-below t,
-  check-node.Post,
-  children-count-reads.Asked,
-  children-count-reads.Learnt,
-) (check-node-at t) check-node.Post check-node-Inv-loop check-node-μ-loop
-check-node-same-length-4 t c = ?
+check-node-same-length-4 : (t : ℕ) → check-node-lts.Need-same-length-4 (cs t) (check-node-at t) check-node.Post check-node-Inv-loop check-node-μ-loop
+check-node-same-length-4 t c = search needs
 
--- src/lib.rt:167:13
-check-node-returns-6 : (t : ℕ) → check-node-lts.Need-returns-6 (
-  group-reads.Asked,
-  group-reads.Learnt,
-  count-reads.Asked,
-  count-reads.Learnt,
-  first-reads.Asked,
-  first-reads.Learnt,
-  last-reads.Asked,
-  last-reads.Learnt,
-  check-list-reads.Asked,
-  check-list-reads.Learnt,
-  claim-reads.Asked,
-  claim-reads.Learnt,
-  child-reads.Asked,
-  child-reads.Learnt,
-  plane-Rectangle-child-reads.Asked,
-  plane-Rectangle-child-reads.Learnt,
-  low-part-reads.Asked,
-  low-part-reads.Learnt,
-  top-part-reads.Asked,
-  top-part-reads.Learnt,
-  check-node-below t,
-  check-node.Post,
-  children-count-reads.Asked,
-  children-count-reads.Learnt,
-) (check-node-at t) check-node.Post check-node-Inv-loop check-node-μ-loop
-check-node-returns-6 t c = ?
+check-node-returns-6 : (t : ℕ) → check-node-lts.Need-returns-6 (cs t) (check-node-at t) check-node.Post check-node-Inv-loop check-node-μ-loop
+check-node-returns-6 t c = check-divided _ _ _ _ _ _ _ _ _ _ _ _ _ _ _ _ _ _ (omega arith) (c .before .before .before .before .before .before .before .before .before .before .before .before .before .before .before .before .before .before .before .before .before .before .before .group .ensures) (c .before .before .before .before .before .before .before .before .before .before .before .before .before .before .before .before .before .before .before .before .before .before .count .ensures) (c .before .before .before .before .before .before .before .before .before .before .before .before .before .before .before .before .before .before .before .before .before .if1 .left) (c .before .before .before .before .before .before .before .before .before .before .before .before .before .before .before .before .before .before .before .before .if3 .left) (omega (arith, c .before .before .before .before .before .before .before .before .before .before .before .before .before .before .before .before .before .before .before .if4 .left)) (c .before .before .before .before .before .before .before .before .before .before .before .before .before .before .before .before .before .claim .ensures) (c .before .before .before .before .before .before .before .before .before .before .before .before .before .before .if5 .left) (descending-not _ _ _ _ _ _ _ _ _ _ _ _ _ _ _ (c .before .before .before .before .before .before .before .before .before .before .before .before .before .loop .inv) _ _ _ _ _ _ _ _ (c .before .before .before .before .before .before .before .before .before .before .before .before .loop-test .taken) (c .before .before .before .before .before .before .before .before .before .before .before .child .ensures .0) (c .before .before .before .before .before .before .before .before .before .before .child2 .ensures) (ap₂ (λ l t. bounding l t (place2 (c .before .before .before .before .before .before .before .before .before .before .before .before .before .before .before .before .before .before .before .before .before .before .before .before .before .before .before .before .before .args .edge))) (c .before .before .before .before .before .before .before .before .before .low-part .ensures) (c .before .before .before .before .before .before .before .before .top-part .ensures) ∙ narrowed-bounding _ _ _ _ _) (c .before .before .before .before .before .check-node .ensures) (c .if6 .taken))
 
--- src/lib.rt:169:9
-check-node-add-c : (t : ℕ) → check-node-lts.Need-add-c (
-  group-reads.Asked,
-  group-reads.Learnt,
-  count-reads.Asked,
-  count-reads.Learnt,
-  first-reads.Asked,
-  first-reads.Learnt,
-  last-reads.Asked,
-  last-reads.Learnt,
-  check-list-reads.Asked,
-  check-list-reads.Learnt,
-  claim-reads.Asked,
-  claim-reads.Learnt,
-  child-reads.Asked,
-  child-reads.Learnt,
-  plane-Rectangle-child-reads.Asked,
-  plane-Rectangle-child-reads.Learnt,
-  low-part-reads.Asked,
-  low-part-reads.Learnt,
-  top-part-reads.Asked,
-  top-part-reads.Learnt,
-  check-node-below t,
-  check-node.Post,
-  children-count-reads.Asked,
-  children-count-reads.Learnt,
-) (check-node-at t) check-node.Post check-node-Inv-loop check-node-μ-loop
-check-node-add-c t c = ?
+check-node-add-c : (t : ℕ) → check-node-lts.Need-add-c (cs t) (check-node-at t) check-node.Post check-node-Inv-loop check-node-μ-loop
+check-node-add-c t c = search needs
 
--- src/lib.rt:148:5
-check-node-loop-less : (t : ℕ) → check-node-lts.Need-loop-less (
-  group-reads.Asked,
-  group-reads.Learnt,
-  count-reads.Asked,
-  count-reads.Learnt,
-  first-reads.Asked,
-  first-reads.Learnt,
-  last-reads.Asked,
-  last-reads.Learnt,
-  check-list-reads.Asked,
-  check-list-reads.Learnt,
-  claim-reads.Asked,
-  claim-reads.Learnt,
-  child-reads.Asked,
-  child-reads.Learnt,
-  plane-Rectangle-child-reads.Asked,
-  plane-Rectangle-child-reads.Learnt,
-  low-part-reads.Asked,
-  low-part-reads.Learnt,
-  top-part-reads.Asked,
-  top-part-reads.Learnt,
-  check-node-below t,
-  check-node.Post,
-  children-count-reads.Asked,
-  children-count-reads.Learnt,
-) (check-node-at t) check-node.Post check-node-Inv-loop check-node-μ-loop
-check-node-loop-less t c = ?
+check-node-loop-less : (t : ℕ) → check-node-lts.Need-loop-less (cs t) (check-node-at t) check-node.Post check-node-Inv-loop check-node-μ-loop
+check-node-loop-less t c = search needs
 
--- src/lib.rt:148:5
-check-node-loop-again : (t : ℕ) → check-node-lts.Need-loop-again (
-  group-reads.Asked,
-  group-reads.Learnt,
-  count-reads.Asked,
-  count-reads.Learnt,
-  first-reads.Asked,
-  first-reads.Learnt,
-  last-reads.Asked,
-  last-reads.Learnt,
-  check-list-reads.Asked,
-  check-list-reads.Learnt,
-  claim-reads.Asked,
-  claim-reads.Learnt,
-  child-reads.Asked,
-  child-reads.Learnt,
-  plane-Rectangle-child-reads.Asked,
-  plane-Rectangle-child-reads.Learnt,
-  low-part-reads.Asked,
-  low-part-reads.Learnt,
-  top-part-reads.Asked,
-  top-part-reads.Learnt,
-  check-node-below t,
-  check-node.Post,
-  children-count-reads.Asked,
-  children-count-reads.Learnt,
-) (check-node-at t) check-node.Post check-node-Inv-loop check-node-μ-loop
-check-node-loop-again t c = ?
+check-node-loop-again : (t : ℕ) → check-node-lts.Need-loop-again (cs t) (check-node-at t) check-node.Post check-node-Inv-loop check-node-μ-loop
+check-node-loop-again t c = descending-step _ _ _ _ _ _ _ _ _ _ _ _ _ _ _ (c .before .before .before .before .before .before .before .before .before .before .before .before .before .loop .inv) _ _ _ _ _ _ (c .before .before .before .before .before .before .before .before .before .before .before .before .loop-test .taken) (c .before .before .before .before .before .before .before .before .before .before .before .child .ensures .0) (c .before .before .before .before .before .before .before .before .before .before .child2 .ensures) (ap₂ (λ l t. bounding l t (place2 (c .before .before .before .before .before .before .before .before .before .before .before .before .before .before .before .before .before .before .before .before .before .before .before .before .before .before .before .before .before .args .edge))) (c .before .before .before .before .before .before .before .before .before .low-part .ensures) (c .before .before .before .before .before .before .before .before .top-part .ensures) ∙ narrowed-bounding _ _ _ _ _) (c .before .before .before .before .before .check-node .kept .1 .1 .1 .1 .1 .1 .1 .1 .1 .1 .0) (c .before .before .before .before .before .check-node .kept .1 .1 .1 .1 .1 .1 .1 .1 .1 .1 .1 .0) (c .before .before .before .before .before .check-node .ensures) (c .if6 .left)
 
--- src/lib.rt:171:5
-check-node-children-count-requires : (t : ℕ) → check-node-lts.Need-children-count-requires (
-  group-reads.Asked,
-  group-reads.Learnt,
-  count-reads.Asked,
-  count-reads.Learnt,
-  first-reads.Asked,
-  first-reads.Learnt,
-  last-reads.Asked,
-  last-reads.Learnt,
-  check-list-reads.Asked,
-  check-list-reads.Learnt,
-  claim-reads.Asked,
-  claim-reads.Learnt,
-  child-reads.Asked,
-  child-reads.Learnt,
-  plane-Rectangle-child-reads.Asked,
-  plane-Rectangle-child-reads.Learnt,
-  low-part-reads.Asked,
-  low-part-reads.Learnt,
-  top-part-reads.Asked,
-  top-part-reads.Learnt,
-  check-node-below t,
-  check-node.Post,
-  children-count-reads.Asked,
-  children-count-reads.Learnt,
-) (check-node-at t) check-node.Post check-node-Inv-loop check-node-μ-loop
-check-node-children-count-requires t c κs = ?
+check-node-children-count-requires : (t : ℕ) → check-node-lts.Need-children-count-requires (cs t) (check-node-at t) check-node.Post check-node-Inv-loop check-node-μ-loop
+check-node-children-count-requires t c κs = search needs
 
--- src/lib.rt:171:36
-check-node-cast-result : (t : ℕ) → check-node-lts.Need-cast-result (
-  group-reads.Asked,
-  group-reads.Learnt,
-  count-reads.Asked,
-  count-reads.Learnt,
-  first-reads.Asked,
-  first-reads.Learnt,
-  last-reads.Asked,
-  last-reads.Learnt,
-  check-list-reads.Asked,
-  check-list-reads.Learnt,
-  claim-reads.Asked,
-  claim-reads.Learnt,
-  child-reads.Asked,
-  child-reads.Learnt,
-  plane-Rectangle-child-reads.Asked,
-  plane-Rectangle-child-reads.Learnt,
-  low-part-reads.Asked,
-  low-part-reads.Learnt,
-  top-part-reads.Asked,
-  top-part-reads.Learnt,
-  check-node-below t,
-  check-node.Post,
-  children-count-reads.Asked,
-  children-count-reads.Learnt,
-) (check-node-at t) check-node.Post check-node-Inv-loop check-node-μ-loop
-check-node-cast-result t c = ?
+check-node-cast-result : (t : ℕ) → check-node-lts.Need-cast-result (cs t) (check-node-at t) check-node.Post check-node-Inv-loop check-node-μ-loop
+check-node-cast-result t c = search needs
 
--- src/lib.rt:111:1
-check-node-same-length-5 : (t : ℕ) → check-node-lts.Need-same-length-5 (
-  group-reads.Asked,
-  group-reads.Learnt,
-  count-reads.Asked,
-  count-reads.Learnt,
-  first-reads.Asked,
-  first-reads.Learnt,
-  last-reads.Asked,
-  last-reads.Learnt,
-  check-list-reads.Asked,
-  check-list-reads.Learnt,
-  claim-reads.Asked,
-  claim-reads.Learnt,
-  child-reads.Asked,
-  child-reads.Learnt,
-  plane-Rectangle-child-reads.Asked,
-  plane-Rectangle-child-reads.Learnt,
-  low-part-reads.Asked,
-  low-part-reads.Learnt,
-  top-part-reads.Asked,
-  top-part-reads.Learnt,
-  check-node-below t,
-  check-node.Post,
-  children-count-reads.Asked,
-  children-count-reads.Learnt,
-) (check-node-at t) check-node.Post check-node-Inv-loop check-node-μ-loop
-check-node-same-length-5 t c = ?
+check-node-same-length-5 : (t : ℕ) → check-node-lts.Need-same-length-5 (cs t) (check-node-at t) check-node.Post check-node-Inv-loop check-node-μ-loop
+check-node-same-length-5 t c = search needs
 
--- src/lib.rt:111:1
-check-node-same-length-6 : (t : ℕ) → check-node-lts.Need-same-length-6 (
-  group-reads.Asked,
-  group-reads.Learnt,
-  count-reads.Asked,
-  count-reads.Learnt,
-  first-reads.Asked,
-  first-reads.Learnt,
-  last-reads.Asked,
-  last-reads.Learnt,
-  check-list-reads.Asked,
-  check-list-reads.Learnt,
-  claim-reads.Asked,
-  claim-reads.Learnt,
-  child-reads.Asked,
-  child-reads.Learnt,
-  plane-Rectangle-child-reads.Asked,
-  plane-Rectangle-child-reads.Learnt,
-  low-part-reads.Asked,
-  low-part-reads.Learnt,
-  top-part-reads.Asked,
-  top-part-reads.Learnt,
-  check-node-below t,
-  check-node.Post,
-  children-count-reads.Asked,
-  children-count-reads.Learnt,
-) (check-node-at t) check-node.Post check-node-Inv-loop check-node-μ-loop
-check-node-same-length-6 t c = ?
+check-node-same-length-6 : (t : ℕ) → check-node-lts.Need-same-length-6 (cs t) (check-node-at t) check-node.Post check-node-Inv-loop check-node-μ-loop
+check-node-same-length-6 t c = search needs
 
--- src/lib.rt:111:1
-check-node-returns-7 : (t : ℕ) → check-node-lts.Need-returns-7 (
-  group-reads.Asked,
-  group-reads.Learnt,
-  count-reads.Asked,
-  count-reads.Learnt,
-  first-reads.Asked,
-  first-reads.Learnt,
-  last-reads.Asked,
-  last-reads.Learnt,
-  check-list-reads.Asked,
-  check-list-reads.Learnt,
-  claim-reads.Asked,
-  claim-reads.Learnt,
-  child-reads.Asked,
-  child-reads.Learnt,
-  plane-Rectangle-child-reads.Asked,
-  plane-Rectangle-child-reads.Learnt,
-  low-part-reads.Asked,
-  low-part-reads.Learnt,
-  top-part-reads.Asked,
-  top-part-reads.Learnt,
-  check-node-below t,
-  check-node.Post,
-  children-count-reads.Asked,
-  children-count-reads.Learnt,
-) (check-node-at t) check-node.Post check-node-Inv-loop check-node-μ-loop
-check-node-returns-7 t c = ?
+check-node-returns-7 : (t : ℕ) → check-node-lts.Need-returns-7 (cs t) (check-node-at t) check-node.Post check-node-Inv-loop check-node-μ-loop
+check-node-returns-7 t c = check-divided _ _ _ _ _ _ _ _ _ _ _ _ _ _ _ _ _ _ (omega arith) (c .before .before .before .before .before .before .before .before .before .before .before .before .group .ensures) (c .before .before .before .before .before .before .before .before .before .before .before .count .ensures) (c .before .before .before .before .before .before .before .before .before .before .if1 .left) (c .before .before .before .before .before .before .before .before .before .if3 .left) (omega (arith, c .before .before .before .before .before .before .before .before .if4 .left)) (c .before .before .before .before .before .before .claim .ensures) (c .before .before .before .if5 .left) (descending-end _ _ _ _ _ _ _ _ _ _ _ _ _ _ _ (c .before .before .loop .inv) _ (c .before .loop-test .left) (ap (λ s. eqb s (c .before .before .before .before .before .before .before .before .before .before .before .count .result)) (c .children-count .ensures)))
 
 pub +check-node-spec : {M : Type 1} → statement M
-+check-node-spec = close μ-check-node λ t. check-node-lts.spec (
-  group-reads.Asked,
-  group-reads.Learnt,
-  count-reads.Asked,
-  count-reads.Learnt,
-  first-reads.Asked,
-  first-reads.Learnt,
-  last-reads.Asked,
-  last-reads.Learnt,
-  check-list-reads.Asked,
-  check-list-reads.Learnt,
-  claim-reads.Asked,
-  claim-reads.Learnt,
-  child-reads.Asked,
-  child-reads.Learnt,
-  plane-Rectangle-child-reads.Asked,
-  plane-Rectangle-child-reads.Learnt,
-  low-part-reads.Asked,
-  low-part-reads.Learnt,
-  top-part-reads.Asked,
-  top-part-reads.Learnt,
-  check-node-below t,
-  check-node.Post,
-  children-count-reads.Asked,
-  children-count-reads.Learnt,
-)
++check-node-spec = close μ-check-node λ t. check-node-lts.spec (cs t)
     (check-node-at t)
     check-node.Post
     check-node-Inv-loop

@@ -1,0 +1,2 @@
+// The library that the gateway's host links: C entry points to the trees.
+pub mod quad;
