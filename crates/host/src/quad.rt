@@ -27,9 +27,7 @@ pub extern "C" fn quadtree_create(
 ) -> u32
     ensures { λ r. ⌜ Does quadtree (Create (side x width ∷ side y height ∷ []) capacity) (pieces (now (head .entry)) (now (nodes .entry)) (now (links .entry)) (now (points .entry))) (pieces (now (head .exit)) (now (nodes .exit)) (now (links .exit)) (now (points .entry))) r 0 ⌝ }
 {
-    create::create(
-        head, nodes, links, points, x, y, width, height, capacity,
-    )
+    create::create(head, nodes, links, points, x, y, width, height, capacity)
 }
 
 // Stores a point.
@@ -215,7 +213,16 @@ pub extern "C" fn quadtree_range_search_bbox(
         return 8;
     }
     let told = search::range_search_bbox(
-        head, nodes, links, points, x, y, width, height, coords, payloads,
+        head,
+        nodes,
+        links,
+        points,
+        x,
+        y,
+        width,
+        height,
+        coords,
+        payloads,
     );
     *count = told.count;
     told.reply

@@ -195,7 +195,18 @@ pub fn sound(head: &[u8], nodes: &[u8], links: &[u8], points: &[u8]) -> bool
         y: b.y + b.height,
     };
     if !check_node(
-        nodes, links, points, 1, b, low, top, edge, 32, n, &mut homes, &mut used,
+        nodes,
+        links,
+        points,
+        1,
+        b,
+        low,
+        top,
+        edge,
+        32,
+        n,
+        &mut homes,
+        &mut used,
     ) {
         return false;
     }
