@@ -1,7 +1,7 @@
 -- A call that tests the pieces first and is proved on those that hold a sound tree meets its contract on any pieces. Over both trees. Assumes nothing.
 use mathlib.Core.Path.{_≡_, refl, sym, _∙_, subst}
 use mathlib.Core.Bool.{Bool, true, false, not}
-use mathlib.Core.List.{List, [], _∷_}
+use mathlib.Core.List.{List, flatten}
 use Prim.Native.Nat.{ℕ}
 use lib.Dec.{T}
 use borrow.Author.Tests.{not-true, not-false}
@@ -38,15 +38,15 @@ module _ (k : Kind) (s : Pieces) (t : Bool) (d : Decides t (Sane k s)) where
     refused c (tree a) nc y = no-tree a y
 
     pub does-not : (c : Call) → NoCreation c → Does k c s s 8 0
-    unfolding Does
+    unfolding Does number
     does-not c nc a y = subst (λ o. Gives k o s s 8 0) (sym (refused c a nc y)) (record { reply = refl; figure = refl; after = y; refused = λ p q. refl })
 
     pub asks-not : (q : Query) → Asks k q s 8 0
-    unfolding Asks
+    unfolding Asks number
     asks-not q a y = subst (λ o. Tells o 8 0) (sym (refused (Ask q) a tt y)) (record { reply = refl; figure = refl })
 
     pub searches-not : (q : Query) (cs ms : List ℕ) → Searches k q s cs ms cs ms 8 0
-    unfolding Searches
+    unfolding Searches number coordinates payloads flatten
     searches-not q cs ms a y = subst (λ o. Hands o cs ms cs ms 8 0) (sym (refused (Ask q) a tt y)) (record { reply = refl; figure = refl; coordinates = refl; payloads = refl })
 
   -- ---- pieces that do
