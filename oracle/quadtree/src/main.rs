@@ -1,0 +1,135 @@
+//! Compares our quadtree with the Rust's, call by call. The word MILLIONS says how many calls there are in all.
+
+mod call;
+mod draw;
+mod pair;
+mod run;
+mod rust;
+mod sequences;
+mod shape;
+mod short;
+mod streams;
+
+use oracle::check::Report;
+use run::{Run, Tally};
+use std::process::ExitCode;
+use std::sync::atomic::{AtomicUsize, Ordering};
+use std::sync::Mutex;
+
+/// A test: its name, and what it does with a seed and a number of calls.
+type Test = (String, Box<dyn Fn(u64, u64) -> Run + Sync>);
+
+fn tests() -> Vec<Test> {
+    let mut all: Vec<Test> = Vec::new();
+    for (name, round, share) in sequences::KINDS {
+        let test = move |seed, most| {
+            let mut run = Run::new(seed, most / share);
+            while !run.done() {
+                round(&mut run);
+            }
+            run
+        };
+        all.push((name.into(), Box::new(test)));
+    }
+    for kind in streams::KINDS {
+        let test = move |seed: u64, most| {
+            let mut run = Run::new(seed, most);
+            for part in 0.. {
+                if run.done() {
+                    break;
+                }
+                streams::stream(&mut run, kind, seed + 1000 * part, 2000);
+            }
+            run
+        };
+        all.push((format!("stream {kind}"), Box::new(test)));
+    }
+    all.push(("four come and go".into(), Box::new(|seed, most| short_merges(seed, most))));
+    all.push(("all short sequences".into(), Box::new(|seed, most| short_steps(seed, most))));
+    all
+}
+
+/// 120960 sequences of 9 calls there are; fewer are taken evenly.
+fn short_merges(seed: u64, most: u64) -> Run {
+    let mut run = Run::new(seed, u64::MAX);
+    short::merges(&mut run, (1_088_640 / most.max(1)).clamp(1, 1680) as usize);
+    run
+}
+
+/// Sequences of as many steps as the calls allow.
+fn short_steps(seed: u64, most: u64) -> Run {
+    let mut run = Run::new(seed, u64::MAX);
+    let calls = |length: u32| 2 * 8u64.pow(length) * u64::from(length + 2);
+    short::steps(&mut run, (1..7).take_while(|length| calls(*length) <= most.max(300)).last().unwrap_or(1));
+    run
+}
+
+/// Runs every test, two at a time, and gives what each came to in order.
+fn all(tests: &[Test], calls: u64) -> Vec<Run> {
+    let next = AtomicUsize::new(0);
+    let runs: Vec<Mutex<Option<Run>>> = tests.iter().map(|_| Mutex::new(None)).collect();
+    let work = || loop {
+        let number = next.fetch_add(1, Ordering::Relaxed);
+        let Some((_, test)) = tests.get(number) else { return };
+        *runs[number].lock().expect("a test stopped") = Some(test(number as u64 + 1, calls));
+    };
+    std::thread::scope(|scope| {
+        scope.spawn(work);
+        work();
+    });
+    runs.into_iter().filter_map(|run| run.into_inner().ok().flatten()).collect()
+}
+
+/// The replies that must have come, each many times.
+const WANTED: [(&str, &[u8]); 11] = [
+    ("create", &[0, 3, 4]),
+    ("insert", &[0, 1, 5, 6]),
+    ("insert_bulk", &[0, 5, 6]),
+    ("delete", &[0, 1, 2]),
+    ("contains", &[0]),
+    ("len", &[0]),
+    ("is_empty", &[0]),
+    ("clear", &[0]),
+    ("range_search", &[0, 7]),
+    ("range_search_bbox", &[0, 7]),
+    ("knn_search", &[0, 7]),
+];
+
+fn coverage(tally: &Tally) -> Result<String, String> {
+    let many = |name, reply| tally.replies.get(&(name, reply)).copied().unwrap_or(0);
+    let mut lines = Vec::new();
+    for (name, replies) in WANTED {
+        let each: Vec<String> = replies.iter().map(|r| format!("{} times {r}", many(name, *r))).collect();
+        lines.push(format!("{name} {}", each.join(", ")));
+        if let Some(reply) = replies.iter().find(|reply| many(name, **reply) < 20) {
+            return Err(format!("{name} got {reply} only {} times", many(name, *reply)));
+        }
+    }
+    if (tally.most_points, tally.most_nodes) != (512, 341) {
+        return Err(format!("at most {} points and {} nodes", tally.most_points, tally.most_nodes));
+    }
+    Ok(format!("{} calls, up to 512 points and 341 nodes; {}", tally.calls, lines.join("; ")))
+}
+
+fn main() -> ExitCode {
+    let millions = std::env::args().nth(1).map_or(Ok(1.0), |word| word.parse::<f64>());
+    let Ok(millions) = millions else {
+        eprintln!("oracle: quadtree takes a number of millions of calls");
+        return ExitCode::from(2);
+    };
+    let tests = tests();
+    let calls = (millions * 1e6 / tests.len() as f64) as u64;
+    let mut report = Report::default();
+    let mut tally = Tally::default();
+    for ((name, _), run) in tests.iter().zip(all(&tests, calls)) {
+        tally.join(&run.tally);
+        let what = format!("{} calls", run.tally.calls);
+        report.test(&format!("quadtree {name}"), run.failed.map_or(Ok(what), Err));
+    }
+    report.test("quadtree coverage", coverage(&tally));
+    if report.all_passed() {
+        ExitCode::SUCCESS
+    } else {
+        ExitCode::FAILURE
+    }
+}
