@@ -19,13 +19,17 @@ pub const COUNT: usize = 3;
 pub const CAPACITY: usize = 8;
 pub const SPARE: usize = 9;
 
+/// A word; outside the piece it is 0.
 pub fn word(bytes: &[u8], number: usize) -> u32 {
-    let at = 4 * number;
-    u32::from_le_bytes([bytes[at], bytes[at + 1], bytes[at + 2], bytes[at + 3]])
+    let four = bytes.get(4 * number..4 * number + 4);
+    four.map_or(0, |four| u32::from_le_bytes([four[0], four[1], four[2], four[3]]))
 }
 
+/// Sets a word; outside the piece nothing is set.
 pub fn set_word(bytes: &mut [u8], number: usize, value: u32) {
-    bytes[4 * number..4 * number + 4].copy_from_slice(&value.to_le_bytes());
+    if let Some(four) = bytes.get_mut(4 * number..4 * number + 4) {
+        four.copy_from_slice(&value.to_le_bytes());
+    }
 }
 
 pub fn float(bytes: &[u8], number: usize) -> f64 {
@@ -33,7 +37,8 @@ pub fn float(bytes: &[u8], number: usize) -> f64 {
 }
 
 pub fn set_float(bytes: &mut [u8], number: usize, value: f64) {
-    bytes[8 * number..8 * number + 8].copy_from_slice(&value.to_le_bytes());
+    set_word(bytes, 2 * number, value.to_bits() as u32);
+    set_word(bytes, 2 * number + 1, (value.to_bits() >> 32) as u32);
 }
 
 /// The boundary that a head holds: both corners, then both extents.

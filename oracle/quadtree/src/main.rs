@@ -65,7 +65,7 @@ fn short_steps(seed: u64, most: u64) -> Run {
 }
 
 /// Runs every test, two at a time, and gives what each came to in order.
-fn all(tests: &[Test], calls: u64) -> Vec<Run> {
+fn all(tests: &[Test], calls: u64) -> Vec<Option<Run>> {
     let next = AtomicUsize::new(0);
     let runs: Vec<Mutex<Option<Run>>> = tests.iter().map(|_| Mutex::new(None)).collect();
     let work = || loop {
@@ -74,10 +74,11 @@ fn all(tests: &[Test], calls: u64) -> Vec<Run> {
         *runs[number].lock().expect("a test stopped") = Some(test(number as u64 + 1, calls));
     };
     std::thread::scope(|scope| {
-        scope.spawn(work);
+        let other = scope.spawn(work);
         work();
+        drop(other.join());
     });
-    runs.into_iter().filter_map(|run| run.into_inner().ok().flatten()).collect()
+    runs.into_iter().map(|run| run.into_inner().ok().flatten()).collect()
 }
 
 /// The replies that must have come, each many times.
@@ -122,9 +123,12 @@ fn main() -> ExitCode {
     let mut report = Report::default();
     let mut tally = Tally::default();
     for ((name, _), run) in tests.iter().zip(all(&tests, calls)) {
-        tally.join(&run.tally);
-        let what = format!("{} calls", run.tally.calls);
-        report.test(&format!("quadtree {name}"), run.failed.map_or(Ok(what), Err));
+        let outcome = run.map_or(Err("it stopped".into()), |run| {
+            tally.join(&run.tally);
+            let what = format!("{} calls", run.tally.calls);
+            run.failed.map_or(Ok(what), Err)
+        });
+        report.test(&format!("quadtree {name}"), outcome);
     }
     report.test("quadtree coverage", coverage(&tally));
     if report.all_passed() {
