@@ -4,7 +4,7 @@
 
 pub mod calls;
 mod pieces;
-mod raw;
+pub mod raw;
 mod reply;
 
 use calls::{Answer, Shared};

@@ -44,12 +44,13 @@ fn tests() -> Vec<Test> {
         };
         all.push((format!("stream {kind}"), Box::new(test)));
     }
-    all.push(("four come and go".into(), Box::new(|seed, most| short_merges(seed, most))));
-    all.push(("all short sequences".into(), Box::new(|seed, most| short_steps(seed, most))));
+    // Small trees are quick, so that these get more.
+    all.push(("four come and go".into(), Box::new(|seed, most| short_merges(seed, 4 * most))));
+    all.push(("all short sequences".into(), Box::new(|seed, most| short_steps(seed, 4 * most))));
     all
 }
 
-/// 120960 sequences of 9 calls there are; fewer are taken evenly.
+/// 120,960 sequences of 9 calls there are; of fewer every so many-th is taken.
 fn short_merges(seed: u64, most: u64) -> Run {
     let mut run = Run::new(seed, u64::MAX);
     short::merges(&mut run, (1_088_640 / most.max(1)).clamp(1, 1680) as usize);
