@@ -1,5 +1,6 @@
 //! The eleven calls on pieces that may be anything, and what must hold of each.
 
+use crate::fence::Fence;
 use lent::layout::*;
 use lent::memory::{Answer, Memory};
 use lent::sound::sound;
@@ -116,6 +117,25 @@ fn right(number: usize, words: &Words, reply: Reply, memory: &Memory, answer: &A
     match answer.first(payloads.len() / 4) == (&coords, &payloads) {
         true => Ok(()),
         false => Err(format!("{} gives another answer than a look at every point", CALLS[number])),
+    }
+}
+
+/// Asks one call of a copy that ends where memory ends: the reply is the same, and nothing behind is read.
+pub fn ask_fenced(
+    number: usize,
+    words: &Words,
+    lengths: [usize; 4],
+    memory: &mut Memory,
+    fence: &mut Fence,
+) -> Result<(), String> {
+    let mut answer = Answer::new(16 * words.room, 4 * words.room);
+    let fenced = call(number, words, fence.lent(memory, lengths), &mut answer);
+    let before = memory.clone();
+    let plain = call(number, words, memory.lent_at(lengths), &mut answer);
+    memory.copy(&before);
+    match fenced == plain {
+        true => Ok(()),
+        false => Err(format!("{} gives {fenced:?} at the end of memory and else {plain:?}", CALLS[number])),
     }
 }
 

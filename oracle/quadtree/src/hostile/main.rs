@@ -5,9 +5,11 @@
 mod asks;
 mod base;
 mod damage;
+mod fence;
 
-use asks::{ask, Words, CALLS};
+use asks::{ask, ask_fenced, Words, CALLS};
 use base::Base;
+use fence::Fence;
 use lent::layout::*;
 use lent::memory::Memory;
 use lent::sound::sound;
@@ -20,7 +22,7 @@ use std::time::Duration;
 
 /// Pieces that are made from one sound tree.
 const FROM_ONE: u64 = 400;
-/// Each piece is asked one call in turn, and every so many-th all of them.
+/// Each piece is asked one call in turn, and every so many-th all of them, these also where memory ends.
 const ALL_CALLS: u64 = 16;
 /// Nothing takes so long.
 const PATIENCE: Duration = Duration::from_secs(120);
@@ -78,8 +80,16 @@ fn differences(base: &Memory, other: &Memory) -> String {
     format!("{} words differ: {}", all.len(), shown.join(", "))
 }
 
+/// The memory that all pieces of a kind stand in, one after the other.
+struct Stage {
+    memory: Memory,
+    before: Memory,
+    fence: Fence,
+}
+
 /// One damaged piece, asked one call or all.
-fn piece(kind: usize, number: u64, base: &Base, memory: &mut Memory, before: &mut Memory, tally: &mut Tally) {
+fn piece(kind: usize, number: u64, base: &Base, stage: &mut Stage, tally: &mut Tally) {
+    let Stage { memory, before, fence } = stage;
     let mut random = Random::new(number * 64 + kind as u64);
     memory.copy(&base.memory);
     let mut at_lengths = LENGTHS;
@@ -99,7 +109,11 @@ fn piece(kind: usize, number: u64, base: &Base, memory: &mut Memory, before: &mu
     for turn in 0..many {
         let call = (first + turn) % CALLS.len();
         tally.calls += 1;
-        if let Err(what) = ask(call, &words, is_sound, at_lengths, memory, before) {
+        let mut outcome = ask(call, &words, is_sound, at_lengths, memory, before);
+        if outcome.is_ok() && many > 1 {
+            outcome = ask_fenced(call, &words, at_lengths, memory, fence);
+        }
+        if let Err(what) = outcome {
             let from = differences(&base.memory, before);
             let case = format!("{}, piece {number}, base {}", name(kind), number / FROM_ONE);
             tally.failed = Some(format!("{case}, lengths {at_lengths:?}: {what}; {from}"));
@@ -114,14 +128,14 @@ fn piece(kind: usize, number: u64, base: &Base, memory: &mut Memory, before: &mu
 
 fn run(kind: usize, pieces: u64, progress: &AtomicU64) -> Tally {
     let mut tally = Tally::default();
-    let (mut memory, mut before) = (Memory::default(), Memory::default());
+    let mut stage = Stage { memory: Memory::default(), before: Memory::default(), fence: Fence::new() };
     let mut base: Result<Base, String> = Err(String::new());
     for number in 0..pieces {
         if number % FROM_ONE == 0 {
             base = Base::new(number / FROM_ONE);
         }
         match &base {
-            Ok(base) => piece(kind, number, base, &mut memory, &mut before, &mut tally),
+            Ok(base) => piece(kind, number, base, &mut stage, &mut tally),
             Err(what) => tally.failed = Some(what.clone()),
         }
         progress.fetch_add(1, Ordering::Relaxed);
