@@ -1,6 +1,18 @@
 //! The quadtree for a Rust host: safe functions over the proved library that quadtree.h describes.
 //!
 //! `Quadtree` owns its memory. A host that keeps a tree's pieces in memory of its own calls `calls` instead.
+//!
+//! ```
+//! use ralikudo::{Point2D, Quadtree, Rectangle, Refusal};
+//!
+//! let boundary = Rectangle { x: 0.0, y: 0.0, width: 8.0, height: 8.0 };
+//! let mut tree = Quadtree::new(boundary, 4)?;
+//! let fault = Point2D { x: 1.0, y: 1.0, payload: 7 };
+//! tree.insert(fault)?;
+//! assert_eq!(tree.range_search(1.0, 2.0, 1.5)?, [fault]);
+//! assert_eq!(tree.insert(Point2D { x: 9.0, ..fault }), Err(Refusal::Outside));
+//! # Ok::<(), Refusal>(())
+//! ```
 
 pub mod calls;
 mod pieces;
