@@ -299,6 +299,15 @@ fn boundary(random: &mut Random, _: &Base, memory: &mut Memory) {
     set_float(head, number, new);
 }
 
+/// Makes this the list of a node; its count is not set.
+fn set_list(nodes: &mut [u8], links: &mut [u8], node: usize, list: &[usize]) {
+    for (i, place) in list.iter().enumerate() {
+        set_word(links, *place, list.get(i + 1).copied().unwrap_or(0) as u32);
+    }
+    set_field(nodes, node, FIRST, list.first().copied().unwrap_or(0));
+    set_field(nodes, node, LAST, list.last().copied().unwrap_or(0));
+}
+
 /// A leaf is divided with everything in order but that it need not be; at depth 32 it must not.
 fn divided_early(random: &mut Random, base: &Base, memory: &mut Memory) {
     let [head, nodes, links, points] = memory.pieces_mut();
@@ -313,22 +322,13 @@ fn divided_early(random: &mut Random, base: &Base, memory: &mut Memory) {
         bounds = part(&bounds, node % 4);
     }
     set_field(nodes, 0, GROUP, field(nodes, 4 * group, GROUP));
-    for child in 0..4 {
-        let mut list = chain(links, field(nodes, leaf, FIRST));
-        list.retain(|place| route(&bounds, at(points, *place)) == child);
-        let node = 4 * group + child;
-        set_field(nodes, node, GROUP, 0);
-        set_field(nodes, node, FIRST, list.first().copied().unwrap_or(0));
-        set_field(nodes, node, LAST, list.last().copied().unwrap_or(0));
-        set_field(nodes, node, COUNT, list.len());
-    }
     let all = chain(links, field(nodes, leaf, FIRST));
     for child in 0..4 {
-        let list: Vec<usize> =
-            all.iter().copied().filter(|place| route(&bounds, at(points, *place)) == child).collect();
-        for (i, place) in list.iter().enumerate() {
-            set_word(links, *place, list.get(i + 1).copied().unwrap_or(0) as u32);
-        }
+        let goes = |place: &usize| route(&bounds, at(points, *place)) == child;
+        let list: Vec<usize> = all.iter().copied().filter(goes).collect();
+        set_field(nodes, 4 * group + child, GROUP, 0);
+        set_field(nodes, 4 * group + child, COUNT, list.len());
+        set_list(nodes, links, 4 * group + child, &list);
     }
     set_field(nodes, leaf, GROUP, group);
 }
@@ -348,12 +348,8 @@ fn merged_late(random: &mut Random, base: &Base, memory: &mut Memory) {
     let group = field(nodes, node, GROUP);
     let list: Vec<usize> =
         (0..4).flat_map(|child| chain(links, field(nodes, 4 * group + child, FIRST))).collect();
-    for (i, place) in list.iter().enumerate() {
-        set_word(links, *place, list.get(i + 1).copied().unwrap_or(0) as u32);
-    }
     set_field(nodes, node, GROUP, 0);
-    set_field(nodes, node, FIRST, list.first().copied().unwrap_or(0));
-    set_field(nodes, node, LAST, list.last().copied().unwrap_or(0));
+    set_list(nodes, links, node, &list);
     set_field(nodes, 4 * group, GROUP, field(nodes, 0, GROUP));
     set_field(nodes, 0, GROUP, group);
 }
