@@ -4,3 +4,4 @@ pub mod layout;
 pub mod memory;
 pub mod renumber;
 pub mod sound;
+pub mod watch;

@@ -10,10 +10,10 @@ mod shape;
 mod short;
 mod streams;
 
+use lent::watch::two_at_a_time;
 use oracle::check::Report;
 use run::{Run, Tally};
 use std::process::ExitCode;
-use std::sync::atomic::{AtomicUsize, Ordering};
 use std::sync::Mutex;
 
 /// A test: its name, and what it does with a seed and a number of calls.
@@ -65,19 +65,13 @@ fn short_steps(seed: u64, most: u64) -> Run {
     run
 }
 
-/// Runs every test, two at a time, and gives what each came to in order.
+/// What each test came to, in order; nothing of one that stopped.
 fn all(tests: &[Test], calls: u64) -> Vec<Option<Run>> {
-    let next = AtomicUsize::new(0);
     let runs: Vec<Mutex<Option<Run>>> = tests.iter().map(|_| Mutex::new(None)).collect();
-    let work = || loop {
-        let number = next.fetch_add(1, Ordering::Relaxed);
-        let Some((_, test)) = tests.get(number) else { return };
-        *runs[number].lock().expect("a test stopped") = Some(test(number as u64 + 1, calls));
-    };
-    std::thread::scope(|scope| {
-        let other = scope.spawn(work);
-        work();
-        drop(other.join());
+    let name = |number: usize| format!("quadtree {}", tests[number].0);
+    two_at_a_time(tests.len(), name, |number| {
+        let run = (tests[number].1)(number as u64 + 1, calls);
+        *runs[number].lock().expect("nobody else takes it") = Some(run);
     });
     runs.into_iter().map(|run| run.into_inner().ok().flatten()).collect()
 }

@@ -2,8 +2,10 @@
 
 use crate::call::Call;
 use crate::pair::Pair;
+use lent::watch::tick;
 use oracle::random::Random;
 use std::collections::BTreeMap;
+use std::time::{Duration, Instant};
 
 /// What a kind of sequence reached.
 #[derive(Default)]
@@ -35,6 +37,9 @@ pub struct Run {
     pub failed: Option<String>,
     payload: u32,
 }
+
+/// How long a sequence that fails is made shorter.
+const SHORTENING: Duration = Duration::from_secs(5);
 
 /// Calls that are kept for the case that one fails; a longer sequence begins anew.
 const LONGEST: usize = 4000;
@@ -70,6 +75,7 @@ impl Run {
         if self.log.len() == LONGEST {
             self.begin();
         }
+        tick();
         let answer = self.pair.ask(&call);
         self.tally.calls += 1;
         let reply = *answer.as_ref().unwrap_or(&0);
@@ -98,6 +104,7 @@ impl Run {
 /// What a sequence shows, from memory that holds no tree.
 fn fails(calls: &[Call]) -> Option<String> {
     let mut pair = Pair::default();
+    tick();
     calls.iter().find_map(|call| pair.ask(call).err())
 }
 
@@ -106,11 +113,10 @@ fn smallest(log: &[Call], what: String) -> String {
     let mut calls = log.to_vec();
     let mut what = fails(&calls).unwrap_or(what);
     let mut many = calls.len();
-    let mut trials = 0;
-    while many > 0 && trials < 3000 {
+    let start = Instant::now();
+    while many > 0 {
         let mut from = 0;
-        while from + many <= calls.len() {
-            trials += 1;
+        while from + many <= calls.len() && start.elapsed() < SHORTENING {
             let fewer = [&calls[..from], &calls[from + many..]].concat();
             match fails(&fewer) {
                 Some(shown) => (calls, what) = (fewer, shown),

@@ -13,19 +13,16 @@ use fence::Fence;
 use lent::layout::*;
 use lent::memory::Memory;
 use lent::sound::sound;
+use lent::watch::{tick, two_at_a_time};
 use oracle::check::Report;
 use oracle::random::Random;
 use std::process::ExitCode;
-use std::sync::atomic::{AtomicU64, AtomicUsize, Ordering};
 use std::sync::Mutex;
-use std::time::Duration;
 
 /// Pieces that are made from one sound tree.
 const FROM_ONE: u64 = 400;
 /// Each piece is asked one call in turn, and every so many-th all of them, these also where memory ends.
 const ALL_CALLS: u64 = 16;
-/// Nothing takes so long.
-const PATIENCE: Duration = Duration::from_secs(120);
 
 /// The kinds after those of `damage::KINDS`.
 const MEANINGLESS: usize = damage::KINDS.len();
@@ -126,7 +123,7 @@ fn piece(kind: usize, number: u64, base: &Base, stage: &mut Stage, tally: &mut T
     }
 }
 
-fn run(kind: usize, pieces: u64, progress: &AtomicU64) -> Tally {
+fn run(kind: usize, pieces: u64) -> Tally {
     let mut tally = Tally::default();
     let mut stage = Stage { memory: Memory::default(), before: Memory::default(), fence: Fence::new() };
     let mut base: Result<Base, String> = Err(String::new());
@@ -138,7 +135,7 @@ fn run(kind: usize, pieces: u64, progress: &AtomicU64) -> Tally {
             Ok(base) => piece(kind, number, base, &mut stage, &mut tally),
             Err(what) => tally.failed = Some(what.clone()),
         }
-        progress.fetch_add(1, Ordering::Relaxed);
+        tick();
         if tally.failed.is_some() {
             break;
         }
@@ -146,44 +143,16 @@ fn run(kind: usize, pieces: u64, progress: &AtomicU64) -> Tally {
     tally
 }
 
-/// Tells when nothing goes on any more: a call that does not end.
-fn watch(progress: &AtomicU64, running: &Mutex<Vec<usize>>, done: &AtomicUsize) {
-    let mut seen = (u64::MAX, Duration::ZERO);
-    while done.load(Ordering::Relaxed) == 0 {
-        let step = Duration::from_millis(200);
-        std::thread::sleep(step);
-        let now = progress.load(Ordering::Relaxed);
-        seen = if now == seen.0 { (now, seen.1 + step) } else { (now, Duration::ZERO) };
-        if seen.1 > PATIENCE {
-            let kinds: Vec<&str> =
-                running.lock().map(|list| list.iter().map(|k| name(*k)).collect()).unwrap_or_default();
-            println!("FAILED hostile: a call does not end, one of: {}", kinds.join(", "));
-            std::process::exit(1);
-        }
-    }
-}
-
-/// Every kind, two at a time.
+/// What every kind came to.
 fn all(pieces: u64) -> Vec<Tally> {
-    let (next, done, progress) = (AtomicUsize::new(0), AtomicUsize::new(0), AtomicU64::new(0));
     let tallies: Vec<Mutex<Tally>> = (0..=LENGTH).map(|_| Mutex::default()).collect();
-    let running = Mutex::new(Vec::new());
-    let work = || loop {
-        let kind = next.fetch_add(1, Ordering::Relaxed);
-        if kind > LENGTH {
-            return;
-        }
-        running.lock().expect("a thread stopped").push(kind);
-        *tallies[kind].lock().expect("a thread stopped") = run(kind, pieces, &progress);
-        running.lock().expect("a thread stopped").retain(|other| *other != kind);
-    };
-    std::thread::scope(|scope| {
-        scope.spawn(|| watch(&progress, &running, &done));
-        let other = scope.spawn(work);
-        work();
-        drop(other.join());
-        done.store(1, Ordering::Relaxed);
-    });
+    two_at_a_time(
+        tallies.len(),
+        |kind| format!("hostile {}", name(kind)),
+        |kind| {
+            *tallies[kind].lock().expect("nobody else takes it") = run(kind, pieces);
+        },
+    );
     tallies.into_iter().filter_map(|tally| tally.into_inner().ok()).collect()
 }
 
