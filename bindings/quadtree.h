@@ -7,8 +7,8 @@
  *     links  2052 bytes   the order of the points and the free places
  *     points 12312 bytes  coordinates and payloads
  *
- * Every slice is a pointer and its length in bytes. A slice may stand at any address, also an odd one. Slices
- * of one call must not overlap. The pieces are the same on every machine: numbers stand low byte first.
+ * Every slice is a pointer and its length in bytes. A slice may stand at any address, also an odd one; no pointer
+ * is null, not even with length 0. Slices of one call must not overlap. Numbers in slices stand low byte first.
  *
  * Every function takes any bytes and any numbers, and always ends. It tests first whether the pieces hold a
  * sound tree and answers QUADTREE_UNSOUND where they do not (quadtree_create asks only for their lengths). A

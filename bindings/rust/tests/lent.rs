@@ -168,6 +168,18 @@ fn pieces_go_out_and_come_back() {
 }
 
 #[test]
+fn pieces_may_stand_at_odd_addresses() {
+    let Pieces { head, nodes, links, points } = tree();
+    let odd = |piece: &[u8]| [&[0], piece].concat();
+    let mut copies = [odd(&head), odd(&nodes), odd(&links), odd(&points)];
+    let [head, nodes, links, points] = copies.each_mut().map(|piece| &mut piece[1..]);
+    let mut lent = Lent { head, nodes, links, points };
+    assert_eq!(lent.insert(at(7.5, 7.5, 99)).number, 0);
+    assert_eq!(lent.shared().count().figure, 41);
+    assert_eq!(lent.shared().contains(at(7.5, 7.5, 99)).figure, 1);
+}
+
+#[test]
 fn clear_keeps_boundary_and_capacity() {
     let mut tree = holding(2, &[at(1.0, 1.0, 1), at(5.0, 5.0, 2), at(6.0, 6.0, 3)]);
     let head = tree.pieces().head;
