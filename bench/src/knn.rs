@@ -2,7 +2,8 @@
 //! the table: ours in arrays of 512 places filled at the start, the Rust's a heap made anew that ends in a
 //! sorted list.
 
-use crate::benchmark::{Benchmark, INPUTS};
+use crate::benchmark::{Benchmark, Side, INPUTS};
+use crate::measure::RUNS;
 use oracle::random::Random;
 use spart::private::Heap;
 
@@ -54,8 +55,9 @@ pub fn all() -> Vec<Benchmark> {
             what: "512 offers to a table of k",
             size: k,
             input,
-            ours: Box::new(move |i| ours(k, &mine[i])),
-            rust: Box::new(move |i| rust(k, &theirs[i])),
+            runs: RUNS,
+            ours: Side::new(move |i| ours(k, &mine[i])),
+            rust: Side::new(move |i| rust(k, &theirs[i])),
         }
     };
     cases.map(benchmark).collect()

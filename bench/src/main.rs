@@ -5,6 +5,8 @@
 mod benchmark;
 mod knn;
 mod measure;
+#[cfg(feature = "quadtree")]
+mod quadtree;
 mod table;
 
 use benchmark::Benchmark;
@@ -12,7 +14,10 @@ use std::process::ExitCode;
 
 /// Every benchmark, in the order of the table.
 fn all() -> Vec<Benchmark> {
-    knn::all()
+    let all = knn::all().into_iter();
+    #[cfg(feature = "quadtree")]
+    let all = all.chain(quadtree::all());
+    all.collect()
 }
 
 fn main() -> ExitCode {

@@ -1,10 +1,10 @@
 //! How long both sides take, measured by turns.
 
-use crate::benchmark::{Benchmark, Round, INPUTS};
+use crate::benchmark::{Benchmark, Side, INPUTS};
 use std::hint::black_box;
 use std::time::{Duration, Instant};
 
-/// Runs of each side.
+/// Runs of each side, where a benchmark asks for no other number.
 pub const RUNS: usize = 51;
 
 /// A run has so many rounds that the faster side takes this long.
@@ -20,12 +20,22 @@ pub struct Figures {
     pub high: f64,
 }
 
-fn time(round: &Round, rounds: usize) -> Duration {
-    let start = Instant::now();
-    for i in 0..rounds {
-        black_box(round(black_box(i % INPUTS)));
-    }
-    start.elapsed()
+fn time(side: &Side, rounds: usize) -> Duration {
+    let work = |i: usize| {
+        black_box((side.work)(black_box(i % INPUTS)));
+    };
+    let Some(before) = &side.before else {
+        let start = Instant::now();
+        (0..rounds).for_each(work);
+        return start.elapsed();
+    };
+    let once = |i: usize| {
+        before();
+        let start = Instant::now();
+        work(i);
+        start.elapsed()
+    };
+    (0..rounds).map(once).sum()
 }
 
 /// How many rounds make a run: whole turns of the inputs.
@@ -39,7 +49,7 @@ fn rounds(benchmark: &Benchmark) -> usize {
 
 pub fn measure(benchmark: &Benchmark) -> Figures {
     let rounds = rounds(benchmark);
-    let run = |round: &Round| time(round, rounds).as_nanos() as f64 / rounds as f64;
+    let run = |side: &Side| time(side, rounds).as_nanos() as f64 / rounds as f64;
     let pair = |i: usize| {
         if i % 2 == 0 {
             let ours = run(&benchmark.ours);
@@ -49,14 +59,15 @@ pub fn measure(benchmark: &Benchmark) -> Figures {
             (run(&benchmark.ours), rust)
         }
     };
-    let pairs: Vec<(f64, f64)> = (0..RUNS).map(pair).collect();
+    let runs = benchmark.runs;
+    let pairs: Vec<(f64, f64)> = (0..runs).map(pair).collect();
     let ratios = sorted(pairs.iter().map(|(ours, rust)| ours / rust));
     Figures {
-        ours: sorted(pairs.iter().map(|pair| pair.0))[RUNS / 2],
-        rust: sorted(pairs.iter().map(|pair| pair.1))[RUNS / 2],
-        ratio: ratios[RUNS / 2],
-        low: ratios[RUNS / 4],
-        high: ratios[RUNS - 1 - RUNS / 4],
+        ours: sorted(pairs.iter().map(|pair| pair.0))[runs / 2],
+        rust: sorted(pairs.iter().map(|pair| pair.1))[runs / 2],
+        ratio: ratios[runs / 2],
+        low: ratios[runs / 4],
+        high: ratios[runs - 1 - runs / 4],
     }
 }
 

@@ -1,19 +1,19 @@
 //! The figures, to be read and to be plotted.
 
 use crate::benchmark::Benchmark;
-use crate::measure::{Figures, RUNS};
+use crate::measure::Figures;
 
 type Line<'a> = (&'a Benchmark, Figures);
 
 pub fn print(lines: &[Line]) {
-    println!("Medians of {RUNS} runs of each side, by turns. The ratio is our time by the Rust's: below 1 ours is faster.");
+    println!("Medians of the runs of each side, by turns. The ratio is our time by the Rust's: below 1 ours is faster.");
     println!("Half of the ratios of neighbouring runs lie in the range at the end.");
     println!();
-    println!("| what | size | input | ours, µs | the Rust, µs | ratio | half of the ratios |");
-    println!("|---|---|---|---|---|---|---|");
-    for (Benchmark { what, size, input, .. }, Figures { ours, rust, ratio, low, high }) in lines {
+    println!("| what | size | input | runs | ours, µs | the Rust, µs | ratio | half of the ratios |");
+    println!("|---|---|---|---|---|---|---|---|");
+    for (Benchmark { what, size, input, runs, .. }, Figures { ours, rust, ratio, low, high }) in lines {
         let (ours, rust) = (ours / 1000.0, rust / 1000.0);
-        print!("| {what} | {size} | {input} | {ours:.2} | {rust:.2} ");
+        print!("| {what} | {size} | {input} | {runs} | {ours:.2} | {rust:.2} ");
         println!("| {ratio:.2} | {low:.2} to {high:.2} |");
     }
 }

@@ -11,7 +11,8 @@ mod special;
 mod stream;
 
 use crate::space::Space;
-pub use spans::takes_a_step;
+pub use mixed::on_grid;
+pub use spans::{stepped_side, takes_a_step};
 pub use stream::Stream;
 
 /// A kind of stream: its name and what adds one round of records.
