@@ -65,7 +65,7 @@ uint32_t quadtree_insert(const uint8_t *head, size_t head_len, uint8_t *nodes, s
 uint32_t quadtree_insert_bulk(const uint8_t *head, size_t head_len, uint8_t *nodes, size_t nodes_len,
                               uint8_t *links, size_t links_len, uint8_t *points, size_t points_len,
                               const uint8_t *coords, size_t coords_len,
-                              const uint8_t *payloads, size_t payloads_len, uint32_t *stored);
+                              const uint8_t *payloads, size_t payloads_len, size_t *stored);
 
 /* Takes out the first equal point of its node's list: equal coordinates, -0 being equal to 0, and an equal
  * payload. Replies 0, 8, 1, 2. */

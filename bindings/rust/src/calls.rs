@@ -65,15 +65,15 @@ impl Lent<'_> {
     #[rustfmt::skip]
     pub fn insert_bulk(&mut self, coords: &[u8], payloads: &[u8]) -> Reply {
         let Lent { head, nodes, links, points } = self;
-        let mut figure = UNSET;
+        let mut stored = usize::MAX;
         let number = unsafe {
             raw::quadtree_insert_bulk(
                 head.as_ptr(), head.len(), nodes.as_mut_ptr(), nodes.len(),
                 links.as_mut_ptr(), links.len(), points.as_mut_ptr(), points.len(),
-                coords.as_ptr(), coords.len(), payloads.as_ptr(), payloads.len(), &mut figure,
+                coords.as_ptr(), coords.len(), payloads.as_ptr(), payloads.len(), &mut stored,
             )
         };
-        Reply { number, figure }
+        Reply { number, figure: u32::try_from(stored).unwrap_or(UNSET) }
     }
 
     #[rustfmt::skip]

@@ -17,7 +17,7 @@ extern "C" {
 
     pub fn quadtree_insert_bulk(
         head: In, _: usize, nodes: Out, _: usize, links: Out, _: usize, points: Out, _: usize,
-        coords: In, _: usize, payloads: In, _: usize, stored: *mut u32,
+        coords: In, _: usize, payloads: In, _: usize, stored: *mut usize,
     ) -> u32;
 
     pub fn quadtree_delete(
