@@ -22,6 +22,6 @@ pub fn csv(lines: &[Line]) -> String {
     let head = String::from("what,size,input,ours_ns,rust_ns,ratio,low,high\n");
     lines.iter().fold(head, |text, (Benchmark { what, size, input, .. }, f)| {
         let Figures { ours, rust, ratio, low, high } = f;
-        text + &format!("{what},{size},{input},{ours:.1},{rust:.1},{ratio:.4},{low:.4},{high:.4}\n")
+        text + &format!("\"{what}\",{size},{input},{ours:.1},{rust:.1},{ratio:.4},{low:.4},{high:.4}\n")
     })
 }

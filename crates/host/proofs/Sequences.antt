@@ -1,0 +1,78 @@
+-- Any sequence of the host's calls on one tree's pieces is the model's run of these calls; so after it the points held are the accepted inserts less the successful
+-- deletes, counted since the last accepted creation or clear. Over both trees. Assumes nothing.
+use mathlib.Core.Path.{_≡_, refl, sym, subst}
+use mathlib.Core.Bool.{Bool, true, false}
+use mathlib.Core.List.{List, [], _∷_, map}
+use Prim.Native.Nat.{ℕ, _≤_, min}
+use lib.Dec.{T, leb}
+use lib.ListN.{length}
+use Rattle.model.specs.Boxes.{Side, acceptable}
+use Rattle.model.specs.Trees.{Point}
+use Rattle.model.specs.Calls.{Kind, Plan, State, misfit, broken, tree, empty, Call, Ask, Query, Contains, Len, IsEmpty, Radius, Box, Nearest, Outcome, noRoom, done, refuse, searchCall, step}
+use Rattle.model.specs.Searches.{radius, box, nearest}
+use Rattle.model.specs.History.{run, ledger, blank}
+use Rattle.model.specs.Soundness.{All}
+use Rattle.model.proofs.After.{Balanced, held-after-creation}
+use Rattle.model.proofs.Calls.{Proper, Regular}
+use Rattle.model.proofs.Inside.{F64Side}
+use Rattle.trees.specs.Pieces.{Pieces, Says, Does, Asks, Searches}
+
+-- a call that was made: the pieces that it left, its reply and its count
+pub record Made : Type 0 where
+  pub call : Call
+  pub left : Pieces
+  pub reply : ℕ
+  pub figure : ℕ
+
+abbrev pub calls : List Made → List Call
+calls ms = map (λ (m : Made). m .call) ms
+
+-- each call was made on the pieces that the one before it left
+abbrev pub Runs : Kind → Pieces → List Made → Type 0
+Runs k s [] = Unit {0}
+Runs k s (m ∷ ms) = Does k (m .call) s (m .left) (m .reply) (m .figure) × Runs k (m .left) ms
+
+abbrev pub finally : Pieces → List Made → Pieces
+finally s [] = s
+finally s (m ∷ ms) = finally (m .left) ms
+
+pub runs-says : (k : Kind) (s : Pieces) (ms : List Made) → Runs k s ms → (a : State) → Says k s a → Says k (finally s ms) (run k a (calls ms))
+unfolding run Does
+runs-says k s [] r a y = y
+runs-says k s (m ∷ ms) r a y = runs-says k (m .left) ms (r .1) (step k a (m .call) .state) (r .0 a y .after)
+
+-- ---- a question is a call that leaves the pieces as they are
+search-state : (a : Plan) (n : ℕ) (ps : List Point) → searchCall a n ps .state ≡ tree a
+unfolding searchCall
+search-state a n ps = by (leb (length ps) n)
+  where
+    by : (t : Bool) → (elim t as (λ u. Outcome) [ true ↦ record { reply = done; state = tree a; figure = length ps; points = ps } | false ↦ refuse noRoom (tree a) ]) .state ≡ tree a
+    by true = refl
+    by false = refl
+
+ask-state : (k : Kind) (a : State) (q : Query) → step k a (Ask q) .state ≡ a
+unfolding step
+ask-state k misfit q = refl
+ask-state k broken q = refl
+ask-state k (tree a) (Contains p) = refl
+ask-state k (tree a) Len = refl
+ask-state k (tree a) IsEmpty = refl
+ask-state k (tree a) (Radius c r n) = search-state a n (radius c r 32 (a .root))
+ask-state k (tree a) (Box b n) = search-state a n (box b 32 (a .root))
+ask-state k (tree a) (Nearest c m n) = search-state a n (nearest (min m 512) c 32 (a .boundary) (a .root))
+
+module _ (k : Kind) (s : Pieces) (q : Query) (r n : ℕ) where
+  pub asks-does : Asks k q s r n → Does k (Ask q) s s r n
+  unfolding Asks Does
+  asks-does h a y = record { reply = h a y .reply; figure = h a y .figure; after = subst (Says k s) (sym (ask-state k a q)) y; refused = λ e f. refl }
+
+  pub searches-does : (cs ms cs' ms' : List ℕ) → Searches k q s cs ms cs' ms' r n → Does k (Ask q) s s r n
+  unfolding Searches Does
+  searches-does cs ms cs' ms' h a y = record { reply = h a y .reply; figure = h a y .figure; after = subst (Says k s) (sym (ask-state k a q)) y; refused = λ e f. refl }
+
+-- ---- "After any sequence of calls the points held are the accepted inserts less the successful deletes"
+pub held-after-calls : (k : Kind) (b : List Side) (cap : ℕ) (s : Pieces) (ms : List Made) → Regular k → All F64Side b → length b ≡ k .axes → 1 ≤ cap → T (acceptable b) → Says k s (tree (empty b cap)) → All (Proper k) (calls ms) → Runs k s ms
+    → (a : Plan) × Says k (finally s ms) (tree a) × Balanced a (ledger k (tree (empty b cap)) (calls ms) blank)
+held-after-calls k b cap s ms rg f e c h y pr r =
+    let t = held-after-creation k b cap (calls ms) rg f e c h pr in
+    (t .0, subst (Says k (finally s ms)) (t .1) (runs-says k s ms r (tree (empty b cap)) y), t .3)
