@@ -8,12 +8,14 @@
  *     points 12312 bytes  coordinates and payloads
  *
  * Every slice is a pointer and its length in bytes. A slice may stand at any address, also an odd one; no pointer
- * is null, not even with length 0. Slices of one call must not overlap. Numbers in slices stand low byte first.
+ * is null, not even with length 0. Slices of one call must not overlap. A pointer to a number is aligned as its type
+ * asks and points into none of the slices. Numbers in slices stand low byte first.
  *
  * Every function takes any bytes and any numbers, and always ends. It tests first whether the pieces hold a
  * sound tree and answers QUADTREE_UNSOUND where they do not (quadtree_create asks only for their lengths). A
  * refused call changes no byte of any slice, but for quadtree_insert_bulk, which keeps what it stored. Where a
- * count or a yes or no is handed over by a pointer, a refused call sets it to 0.
+ * count or a yes or no is handed over by a pointer, a refused call sets it to 0; a bulk that stops at 5 or 6 sets it
+ * to how many it stored. Replies are listed with 0 first, then refusals in the order in which they are tested.
  */
 #ifndef QUADTREE_H
 #define QUADTREE_H
@@ -51,7 +53,7 @@ extern "C" {
  * both ends counted. A node with more than `capacity` points is divided in four, down to depth 32.
  * Replies 0, 8 (only for a wrong length), 3, 4. */
 uint32_t quadtree_create(uint8_t *head, size_t head_len, uint8_t *nodes, size_t nodes_len,
-                         uint8_t *links, size_t links_len, uint8_t *points, size_t points_len,
+                         uint8_t *links, size_t links_len, const uint8_t *points, size_t points_len,
                          double x, double y, double width, double height, uint32_t capacity);
 
 /* Stores a point. Equal points may be stored many times. Replies 0, 8, 1, 5, 6. */
@@ -96,7 +98,8 @@ uint32_t quadtree_clear(const uint8_t *head, size_t head_len, uint8_t *nodes, si
  * after the last point stay as they were. The shorter of the two slices says how many points have room; slices
  * for 512 points have room for every answer. Replies 0, 8, 7. */
 
-/* The points at most `radius` away, in the order of the tree. A radius that is negative or NaN gives none. */
+/* The points whose squared distance, as computed, is at most radius * radius, in the order of the tree. A radius
+ * that is negative or NaN gives none. */
 uint32_t quadtree_range_search(const uint8_t *head, size_t head_len, const uint8_t *nodes, size_t nodes_len,
                                const uint8_t *links, size_t links_len, const uint8_t *points, size_t points_len,
                                double x, double y, double radius, uint8_t *coords, size_t coords_len,
@@ -109,7 +112,8 @@ uint32_t quadtree_range_search_bbox(const uint8_t *head, size_t head_len, const 
                                     uint8_t *payloads, size_t payloads_len, uint32_t *count);
 
 /* The k nearest points, the nearest first; of equally far ones the one that the search meets first. Above 512,
- * k acts as 512. With a NaN in the centre the answer is the first k - 1 points visited and the last. */
+ * k acts as 512. With a NaN in the centre, k not 0 and more than k points held, the answer is the first k - 1 points
+ * visited and the last. */
 uint32_t quadtree_knn_search(const uint8_t *head, size_t head_len, const uint8_t *nodes, size_t nodes_len,
                              const uint8_t *links, size_t links_len, const uint8_t *points, size_t points_len,
                              double x, double y, uint32_t k, uint8_t *coords, size_t coords_len,

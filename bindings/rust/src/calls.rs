@@ -43,7 +43,7 @@ impl Lent<'_> {
         Reply::plain(unsafe {
             raw::quadtree_create(
                 head.as_mut_ptr(), head.len(), nodes.as_mut_ptr(), nodes.len(),
-                links.as_mut_ptr(), links.len(), points.as_mut_ptr(), points.len(),
+                links.as_mut_ptr(), links.len(), points.as_ptr(), points.len(),
                 x, y, width, height, capacity,
             )
         })

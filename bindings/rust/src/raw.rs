@@ -6,7 +6,7 @@ type Out = *mut u8;
 #[rustfmt::skip]
 extern "C" {
     pub fn quadtree_create(
-        head: Out, _: usize, nodes: Out, _: usize, links: Out, _: usize, points: Out, _: usize,
+        head: Out, _: usize, nodes: Out, _: usize, links: Out, _: usize, points: In, _: usize,
         x: f64, y: f64, width: f64, height: f64, capacity: u32,
     ) -> u32;
 

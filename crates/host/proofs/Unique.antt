@@ -9,7 +9,7 @@ use Rattle.model.specs.Calls.{Kind, ways, Plan, State, misfit, broken, tree, Ca
 use Rattle.pool.specs.Writes.{pool}
 use Rattle.pool.proofs.Lists.{by-eq}
 use Rattle.pool.proofs.Read.{world-read}
-use Rattle.trees.specs.Pieces.{Pieces, Fits, Holds, Says, planOf, Does, Asks, Searches}
+use Rattle.trees.specs.Pieces.{Pieces, pieces, Holds, Says, planOf, Does, Asks, Searches}
 
 module _ (k : Kind) (s : Pieces) where
   -- ---- the state that pieces are in
@@ -77,11 +77,16 @@ module _ (k : Kind) (s : Pieces) where
     unfolding Does
     does-state a y = (d a y .after, e a y .after)
 
-    pub does-refused : r1 ≢ 0 → n1 ≡ 0 → (a : State) → Says k s a → s1 ≡ s2
+    pub does-refused : r1 ≢ 0 → n1 ≡ 0 → s1 ≡ s2
     unfolding Does
-    does-refused nz z a y =
-        let f : s1 ≡ s = d a y .refused (λ q. nz (d a y .reply ∙ q)) (sym (d a y .figure) ∙ z) in
-        let g : s2 ≡ s = e a y .refused (λ q. nz (d a y .reply ∙ q)) (sym (d a y .figure) ∙ z) in f ∙ sym g
+    does-refused nz z =
+        ap₂ (λ (h n : List ℕ). pieces h n (s1 .links) (s1 .points)) (piece (λ t. t .head)) (piece (λ t. t .nodes)) ∙ ap₂ (λ (x p : List ℕ). pieces (s2 .head) (s2 .nodes) x p) (piece (λ t. t .links)) (piece (λ t. t .points))
+      where
+        same : (a : State) → Says k s a → s1 ≡ s2
+        same a y = d a y .refused (λ q. nz (d a y .reply ∙ q)) (sym (d a y .figure) ∙ z) ∙ sym (e a y .refused (λ q. nz (d a y .reply ∙ q)) (sym (d a y .figure) ∙ z))
+
+        piece : (f : Pieces → List ℕ) → f s1 ≡ f s2
+        piece f = same-list (f s1) (f s2) (λ a y. ap f (same a y))
 
   pub asks-unique : (q : Query) (r1 n1 r2 n2 : ℕ) → Asks k q s r1 n1 → Asks k q s r2 n2 → (r1 ≡ r2) × (n1 ≡ n2)
   unfolding Asks

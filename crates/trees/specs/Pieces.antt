@@ -81,7 +81,7 @@ pub record Decides (r : Bool) (P : Type 0) : Type 0 where
 
 -- ---- calls
 -- what a call gives, by its outcome: the reply number, the count, and the pieces afterwards. Place numbers are free: the pieces are in the state that is left.
--- "a refused call changes neither the tree nor a lent slice (bulk alone keeps what it stored, and says how many)"
+-- "Refused calls change nothing"; a bulk that stops "keeps those before", and where it stored none it changed nothing
 pub record Gives (k : Kind) (o : Outcome) (s s' : Pieces) (r n : ℕ) : Type 0 where
   pub reply : r ≡ number (o .reply)
   pub figure : n ≡ o .figure
