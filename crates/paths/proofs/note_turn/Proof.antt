@@ -1,7 +1,7 @@
 use Rattle.trees.proofs.Turns.{turn-full}
 use borrow.Author.Needs.{needs}
-use Rattle.quadtree.proofs.insert.turn_to.Statement.{statement}
-use Rattle.quadtree.proofs.insert.turn_to.Tie as tie
+use Rattle.paths.proofs.note_turn.Statement.{statement}
+use Rattle.paths.proofs.note_turn.Tie as tie
 
 slice-write-turns : tie.Need-slice-write-turns
 slice-write-turns c = search needs
@@ -18,5 +18,5 @@ returns c = search needs
 returns-2 : tie.Need-returns-2
 returns-2 c = turn-full _ _ _ (c .if1 .left)
 
-pub turn-to-spec : {M : Type 1} → statement M
-turn-to-spec = tie.close (tie.spec slice-write-turns add-result same-length returns returns-2)
+pub note-turn-spec : {M : Type 1} → statement M
+note-turn-spec = tie.close (tie.spec slice-write-turns add-result same-length returns returns-2)

@@ -1,7 +1,7 @@
 use Rattle.trees.proofs.Walks.{note-yes, note-full, note-no}
 use borrow.Author.Needs.{needs}
-use Rattle.quadtree.proofs.search.note.Statement.{statement}
-use Rattle.quadtree.proofs.search.note.Tie as tie
+use Rattle.paths.proofs.note.Statement.{statement}
+use Rattle.paths.proofs.note.Tie as tie
 
 mul-found : tie.Need-mul-found
 mul-found c = search needs
