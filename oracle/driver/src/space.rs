@@ -13,6 +13,7 @@ use std::fmt::Debug;
 /// The types of the Rust for one number of axes.
 pub trait Space: 'static {
     const AXES: usize;
+    const NAME: &'static str;
     /// The word that begins a tree.
     const WORD: &'static str;
     type Volume: BoundingVolume + HasMinDistance<Self::Item>;
@@ -34,6 +35,8 @@ pub trait Space: 'static {
     fn point(item: &Self::Item) -> Point;
     /// The inherent `contains` of the box.
     fn volume_contains(volume: &Self::Volume, item: &Self::Item) -> bool;
+    /// The inherent `is_empty` of the tree.
+    fn tree_is_empty(tree: &Self::Tree) -> bool;
 }
 
 macro_rules! space {
@@ -43,6 +46,7 @@ macro_rules! space {
 
         impl Space for $space {
             const AXES: usize = $axes;
+            const NAME: &'static str = stringify!($module);
             const WORD: &'static str = $word;
             type Volume = $volume;
             type Item = $point<u32>;
@@ -70,6 +74,9 @@ macro_rules! space {
             }
             fn volume_contains(volume: &$volume, item: &Self::Item) -> bool {
                 volume.contains(item)
+            }
+            fn tree_is_empty(tree: &Self::Tree) -> bool {
+                tree.is_empty()
             }
         }
     };

@@ -1,7 +1,7 @@
 //! The calls that both sides are asked.
 
 use oracle::bits::hex;
-use ralikudo::{Point2D, Rectangle};
+use ralikudo::generic::{Point, Volume};
 use std::fmt::{Display, Formatter, Result};
 
 /// Bytes lent for an answer beyond what the answer takes; below 0 it is lent too few.
@@ -12,24 +12,24 @@ pub struct Room {
 }
 
 #[derive(Clone, Debug)]
-pub enum Call {
-    Create(Rectangle, u32),
-    Insert(Point2D),
+pub enum Call<const N: usize> {
+    Create(Volume<N>, u32),
+    Insert(Point<N>),
     /// Points, and how many bytes the coordinates and the payloads have beyond those points, or fewer.
-    Bulk(Vec<Point2D>, Room),
-    Delete(Point2D),
-    Contains(Point2D),
+    Bulk(Vec<Point<N>>, Room),
+    Delete(Point<N>),
+    Contains(Point<N>),
     Len,
     IsEmpty,
     Clear,
-    Radius([f64; 2], f64, Room),
-    InBox(Rectangle, Room),
-    Nearest([f64; 2], u32, Room),
+    Radius([f64; N], f64, Room),
+    InBox(Volume<N>, Room),
+    Nearest([f64; N], u32, Room),
     /// No call: our tree gets other place numbers, drawn with this seed.
     Renumber(u64),
 }
 
-impl Call {
+impl<const N: usize> Call<N> {
     /// The line of the coverage that counts it.
     pub fn name(&self) -> &'static str {
         match self {
@@ -49,12 +49,16 @@ impl Call {
     }
 }
 
-fn point(p: &Point2D) -> String {
-    format!("{} {} {}", hex(p.x), hex(p.y), p.payload)
+fn numbers<const N: usize>(list: &[f64; N]) -> String {
+    list.map(hex).join(" ")
 }
 
-fn rectangle(r: &Rectangle) -> String {
-    [r.x, r.y, r.width, r.height].map(hex).join(" ")
+fn point<const N: usize>(p: &Point<N>) -> String {
+    format!("{} {}", numbers(&p.at), p.payload)
+}
+
+fn volume<const N: usize>(v: &Volume<N>) -> String {
+    format!("{} {}", numbers(&v.corner), numbers(&v.extent))
 }
 
 impl Display for Room {
@@ -66,21 +70,19 @@ impl Display for Room {
     }
 }
 
-impl Display for Call {
+impl<const N: usize> Display for Call<N> {
     fn fmt(&self, f: &mut Formatter) -> Result {
         write!(f, "{}", self.name())?;
         match self {
-            Call::Create(boundary, capacity) => write!(f, " {} {capacity}", rectangle(boundary)),
+            Call::Create(boundary, capacity) => write!(f, " {} {capacity}", volume(boundary)),
             Call::Insert(p) | Call::Delete(p) | Call::Contains(p) => write!(f, " {}", point(p)),
             Call::Bulk(points, room) => {
                 let list: Vec<String> = points.iter().map(point).collect();
                 write!(f, " [{}]{room}", list.join(", "))
             }
-            Call::Radius(at, radius, room) => {
-                write!(f, " {} {} {}{room}", hex(at[0]), hex(at[1]), hex(*radius))
-            }
-            Call::InBox(query, room) => write!(f, " {}{room}", rectangle(query)),
-            Call::Nearest(at, k, room) => write!(f, " {} {} {k}{room}", hex(at[0]), hex(at[1])),
+            Call::Radius(at, radius, room) => write!(f, " {} {}{room}", numbers(at), hex(*radius)),
+            Call::InBox(query, room) => write!(f, " {}{room}", volume(query)),
+            Call::Nearest(at, k, room) => write!(f, " {} {k}{room}", numbers(at)),
             Call::Renumber(seed) => write!(f, " {seed}"),
             Call::Len | Call::IsEmpty | Call::Clear => Ok(()),
         }

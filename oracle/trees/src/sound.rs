@@ -4,38 +4,30 @@ use crate::layout::*;
 use oracle::room::acceptable;
 use oracle::rules::boxes;
 
-/// A box as its two sides, each a corner and an extent.
-pub type Sides = [(f64, f64); 2];
-
-pub fn sides(boundary: [f64; 4]) -> Sides {
-    [(boundary[0], boundary[2]), (boundary[1], boundary[3])]
-}
-
 /// "Boxes by the split rule": they are not stored, so that they cannot be wrong.
-pub fn part(sides: &Sides, child: usize) -> Sides {
-    [boxes::half(sides[0], child & 1 == 1), boxes::half(sides[1], child & 2 == 2)]
+pub fn part<const N: usize>(sides: &Sides<N>, child: usize) -> Sides<N> {
+    std::array::from_fn(|axis| boxes::half(sides[axis], child >> axis & 1 == 1))
 }
 
-fn inside(sides: &Sides, at: [f64; 2]) -> bool {
-    (0..2).all(|axis| sides[axis].0 <= at[axis] && at[axis] <= boxes::far(sides[axis]))
+fn inside<const N: usize>(sides: &Sides<N>, at: [f64; N]) -> bool {
+    (0..N).all(|axis| sides[axis].0 <= at[axis] && at[axis] <= boxes::far(sides[axis]))
 }
 
-pub fn route(sides: &Sides, at: [f64; 2]) -> usize {
-    let high = |axis: usize| usize::from(at[axis] >= boxes::midplane(sides[axis]));
-    high(0) + 2 * high(1)
+pub fn route<const N: usize>(sides: &Sides<N>, at: [f64; N]) -> usize {
+    (0..N).map(|axis| usize::from(at[axis] >= boxes::midplane(sides[axis])) << axis).sum()
 }
 
 /// A walk over the pieces, with what it has met.
-struct Walk<'a> {
+struct Walk<'a, const N: usize> {
     nodes: &'a [u8],
     links: &'a [u8],
     points: &'a [u8],
-    boundary: Sides,
+    boundary: Sides<N>,
     capacity: usize,
-    groups: [bool; GROUPS + 1],
+    groups: Vec<bool>,
     places: [bool; PLACES + 1],
     /// The divided nodes above: the box of each, and the number of the child that was taken.
-    way: Vec<(Sides, usize)>,
+    way: Vec<(Sides<N>, usize)>,
 }
 
 /// A number that may be met once: from 1 to the last, and not met before.
@@ -44,14 +36,14 @@ fn meet(met: &mut [bool], number: usize) -> Option<()> {
     (!std::mem::replace(seen, true)).then_some(())
 }
 
-impl Walk<'_> {
+impl<const N: usize> Walk<'_, N> {
     /// How many points are in a node and below it, or nothing where something is wrong.
-    fn node(&mut self, node: usize, sides: &Sides) -> Option<usize> {
+    fn node(&mut self, number: usize, sides: &Sides<N>) -> Option<usize> {
         let depth = self.way.len();
-        let group = field(self.nodes, node, GROUP);
-        let count = if group == 0 { self.list(node)? } else { self.children(group, sides)? };
+        let group = field(self.nodes, number, GROUP);
+        let count = if group == 0 { self.list(number)? } else { self.children(group, sides)? };
         // "counts that match at each node"
-        if field(self.nodes, node, COUNT) != count {
+        if field(self.nodes, number, COUNT) != count {
             return None;
         }
         // "no undivided node above depth 32 over capacity, no divided node with capacity points or fewer"
@@ -61,15 +53,15 @@ impl Walk<'_> {
     }
 
     /// "links that form a tree with all children or none", "no node below depth 32"
-    fn children(&mut self, group: usize, sides: &Sides) -> Option<usize> {
+    fn children(&mut self, group: usize, sides: &Sides<N>) -> Option<usize> {
         if self.way.len() == DEEPEST {
             return None;
         }
         meet(&mut self.groups, group)?;
         let mut count = 0;
-        for child in 0..4 {
+        for child in 0..ways(N) {
             self.way.push((*sides, child));
-            count += self.node(4 * group + child, &part(sides, child))?;
+            count += self.node(node(N, group, child), &part(sides, child))?;
             self.way.pop();
         }
         Some(count)
@@ -98,7 +90,7 @@ impl Walk<'_> {
         let mut group = field(self.nodes, 0, GROUP);
         while group != 0 {
             meet(&mut self.groups, group)?;
-            group = field(self.nodes, 4 * group, GROUP);
+            group = field(self.nodes, node(N, group, 0), GROUP);
         }
         let mut place = word(self.links, 0) as usize;
         while place != 0 {
@@ -111,25 +103,24 @@ impl Walk<'_> {
 }
 
 /// "A tree is sound when .."; pieces of wrong length hold none.
-pub fn sound(pieces: [&[u8]; 4]) -> bool {
-    if pieces.map(<[u8]>::len) != LENGTHS {
+pub fn sound<const N: usize>(pieces: [&[u8]; 4]) -> bool {
+    if pieces.map(<[u8]>::len) != lengths(N) {
         return false;
     }
     let [head, nodes, links, points] = pieces;
-    let boundary = boundary(head);
-    let capacity = word(head, CAPACITY) as usize;
+    let root: Sides<N> = boundary(head);
+    let capacity = word(head, capacity_word(N)) as usize;
     // "it has an acceptable boundary, capacity at least 1"
-    if !acceptable(&boundary) || capacity == 0 {
+    if !acceptable(&boxes::joined(root)) || capacity == 0 {
         return false;
     }
-    let root = sides(boundary);
     let mut walk = Walk {
         nodes,
         links,
         points,
         boundary: root,
         capacity,
-        groups: [false; GROUPS + 1],
+        groups: vec![false; groups(N) + 1],
         places: [false; PLACES + 1],
         way: Vec::with_capacity(DEEPEST),
     };

@@ -1,6 +1,7 @@
 //! Both sides, asked the same calls. After each call everything that may show is compared.
 
 use crate::call::{Call, Room};
+use crate::kind::Kind;
 use crate::rust::Rust;
 use crate::shape::{same_bits, same_shape};
 use lent::memory::{Answer, Memory};
@@ -9,19 +10,25 @@ use lent::sound::sound;
 use oracle::calls::{BAD_BOUNDARY, DONE, NO_CAPACITY};
 use oracle::random::Random;
 use oracle::room::acceptable;
-use ralikudo::calls::{Answer as LentAnswer, Shared};
-use ralikudo::{bytes, points, Point2D, Rectangle, Reply};
+use ralikudo::generic::{self, bytes, points, Lent, Library, Point, Shared, Volume};
+use ralikudo::Reply;
 
 const NO_ROOM: u8 = 7;
 const UNSOUND: u8 = 8;
 
-pub struct Pair {
-    ours: Memory,
-    before: Memory,
-    pub rust: Option<Rust>,
+pub struct Pair<const N: usize>
+where
+    Library: Kind<N>,
+{
+    ours: Memory<N>,
+    before: Memory<N>,
+    pub rust: Option<Rust<N>>,
 }
 
-impl Default for Pair {
+impl<const N: usize> Default for Pair<N>
+where
+    Library: Kind<N>,
+{
     /// Memory that holds no tree; any bytes will do.
     fn default() -> Self {
         let mut ours = Memory::default();
@@ -40,9 +47,12 @@ fn length(bytes: usize, more: i64) -> usize {
     (bytes as i64 + more).max(0) as usize
 }
 
-impl Pair {
+impl<const N: usize> Pair<N>
+where
+    Library: Kind<N>,
+{
     /// Asks both sides: the reply number, or how they differ.
-    pub fn ask(&mut self, call: &Call) -> Result<u8, String> {
+    pub fn ask(&mut self, call: &Call<N>) -> Result<u8, String> {
         self.before.copy(&self.ours);
         let reply = match call {
             Call::Create(boundary, capacity) => self.create(boundary, *capacity),
@@ -50,7 +60,7 @@ impl Pair {
             Call::Bulk(list, room) => self.bulk(list, *room),
             Call::Delete(p) => self.change(|lent| lent.delete(*p), |rust| (rust.delete(p), 0)),
             Call::Clear => {
-                let clear = |rust: &mut Rust| {
+                let clear = |rust: &mut Rust<N>| {
                     rust.clear();
                     (DONE, 0)
                 };
@@ -60,16 +70,16 @@ impl Pair {
             Call::Len => self.query(|tree| tree.count(), |rust| rust.len() as u32),
             Call::IsEmpty => self.query(|tree| tree.is_empty(), |rust| rust.is_empty().into()),
             Call::Radius(at, radius, room) => {
-                let found = |rust: &Rust| rust.range_search(*at, *radius);
-                self.search(*room, |tree, answer| tree.range_search(at[0], at[1], *radius, answer), found)
+                let found = |rust: &Rust<N>| rust.range_search(*at, *radius);
+                self.search(*room, |tree, answer| tree.range_search_at(*at, *radius, answer), found)
             }
             Call::InBox(query, room) => {
-                let found = |rust: &Rust| rust.range_search_bbox(query);
+                let found = |rust: &Rust<N>| rust.range_search_bbox(query);
                 self.search(*room, |tree, answer| tree.range_search_bbox(*query, answer), found)
             }
             Call::Nearest(at, k, room) => {
-                let found = |rust: &Rust| rust.knn_search(*at, *k);
-                self.search(*room, |tree, answer| tree.knn_search(at[0], at[1], *k, answer), found)
+                let found = |rust: &Rust<N>| rust.knn_search(*at, *k);
+                self.search(*room, |tree, answer| tree.knn_search_at(*at, *k, answer), found)
             }
             Call::Renumber(seed) => self.renumber(*seed),
         }?;
@@ -79,12 +89,11 @@ impl Pair {
         Ok(reply)
     }
 
-    fn create(&mut self, boundary: &Rectangle, capacity: u32) -> Result<u8, String> {
-        let Rectangle { x, y, width, height } = *boundary;
+    fn create(&mut self, boundary: &Volume<N>, capacity: u32) -> Result<u8, String> {
         let made = Rust::new(boundary, capacity);
         let number = match &made {
             None => NO_CAPACITY,
-            Some(_) if !acceptable(&[x, y, width, height]) => BAD_BOUNDARY,
+            Some(_) if !acceptable(&[boundary.corner, boundary.extent].concat()) => BAD_BOUNDARY,
             Some(_) => DONE,
         };
         let reply = self.ours.lent().create(*boundary, capacity);
@@ -97,8 +106,8 @@ impl Pair {
     /// A call that may change the tree.
     fn change(
         &mut self,
-        ours: impl FnOnce(&mut ralikudo::calls::Lent) -> Reply,
-        rust: impl FnOnce(&mut Rust) -> (u8, u32),
+        ours: impl FnOnce(&mut Lent<N>) -> Reply,
+        rust: impl FnOnce(&mut Rust<N>) -> (u8, u32),
     ) -> Result<u8, String> {
         let reply = ours(&mut self.ours.lent());
         let (number, figure) = self.rust.as_mut().map_or((UNSOUND, 0), rust);
@@ -108,12 +117,12 @@ impl Pair {
         self.changed(reply, wanted(number, figure))
     }
 
-    fn bulk(&mut self, list: &[Point2D], room: Room) -> Result<u8, String> {
+    fn bulk(&mut self, list: &[Point<N>], room: Room) -> Result<u8, String> {
         let (mut coords, mut payloads) = bytes(list);
         coords.resize(length(coords.len(), room.coords), 0x3f);
         payloads.resize(length(payloads.len(), room.payloads), 7);
-        let many = (coords.len() / 16).min(payloads.len() / 4);
-        let list = points(&coords, &payloads, many);
+        let many = (coords.len() / (8 * N)).min(payloads.len() / 4);
+        let list: Vec<Point<N>> = points(&coords, &payloads, many);
         self.change(|lent| lent.insert_bulk(&coords, &payloads), |rust| rust.insert_bulk(&list))
     }
 
@@ -130,7 +139,7 @@ impl Pair {
             return Ok(number);
         };
         same_shape(&self.ours, rust.shape())?;
-        if !sound(self.ours.pieces()) {
+        if !sound::<N>(self.ours.pieces()) {
             return Err("the tree is not sound afterwards".into());
         }
         Ok(number)
@@ -147,8 +156,8 @@ impl Pair {
 
     fn query(
         &mut self,
-        ours: impl FnOnce(Shared) -> Reply,
-        rust: impl FnOnce(&Rust) -> u32,
+        ours: impl FnOnce(Shared<N>) -> Reply,
+        rust: impl FnOnce(&Rust<N>) -> u32,
     ) -> Result<u8, String> {
         let reply = ours(self.ours.shared());
         let wanted = self.rust.as_ref().map_or(wanted(UNSOUND, 0), |tree| wanted(DONE, rust(tree)));
@@ -161,17 +170,17 @@ impl Pair {
     fn search(
         &mut self,
         room: Room,
-        ours: impl FnOnce(Shared, LentAnswer) -> Reply,
-        rust: impl FnOnce(&Rust) -> Vec<Point2D>,
+        ours: impl FnOnce(Shared<N>, generic::Answer) -> Reply,
+        rust: impl FnOnce(&Rust<N>) -> Vec<Point<N>>,
     ) -> Result<u8, String> {
         let found = self.rust.as_ref().map(rust);
         let many = found.as_ref().map_or(0, Vec::len);
-        let (coords, payloads) = (length(16 * many, room.coords), length(4 * many, room.payloads));
-        let mut answer = Answer::new(coords, payloads);
+        let (coords, payloads) = (length(8 * N * many, room.coords), length(4 * many, room.payloads));
+        let mut answer = Answer::<N>::new(coords, payloads);
         let reply = ours(self.ours.shared(), answer.lent());
         let wanted = match &found {
             None => wanted(UNSOUND, 0),
-            Some(_) if many > (coords / 16).min(payloads / 4) => wanted(NO_ROOM, 0),
+            Some(_) if many > (coords / (8 * N)).min(payloads / 4) => wanted(NO_ROOM, 0),
             Some(_) => wanted(DONE, many as u32),
         };
         if reply != wanted {
@@ -179,7 +188,7 @@ impl Pair {
         }
         let given = wanted.figure as usize;
         let (coords, payloads) = answer.first(given);
-        let written = points(coords, payloads, given);
+        let written: Vec<Point<N>> = points(coords, payloads, given);
         let list = found.unwrap_or_default();
         if let Some(i) = (0..given).find(|i| !same_bits(&written[*i], &list[*i])) {
             return Err(format!("answer {i} is {:?} and not {:?}", written[i], list[i]));
@@ -194,7 +203,7 @@ impl Pair {
         if let Some(rust) = &self.rust {
             renumber(&mut self.ours, &mut Random::new(seed));
             same_shape(&self.ours, rust.shape())?;
-            if !sound(self.ours.pieces()) {
+            if !sound::<N>(self.ours.pieces()) {
                 return Err("the renumbered tree is not sound".into());
             }
         }
@@ -203,7 +212,7 @@ impl Pair {
 
     /// Whether the opened tree prints as the unchanged one.
     pub fn opened_is_unchanged(&self) -> bool {
-        let print = |rust: &Rust| (format!("{:?}", rust.shape()), format!("{:?}", rust.unchanged()));
+        let print = |rust: &Rust<N>| (format!("{:?}", rust.shape()), format!("{:?}", rust.unchanged()));
         self.rust.as_ref().map(print).is_none_or(|(opened, unchanged)| opened == unchanged)
     }
 }

@@ -1,9 +1,11 @@
 //! A sequence of calls under way, what came of it, and the smallest part of it that fails.
 
 use crate::call::Call;
+use crate::kind::Kind;
 use crate::pair::Pair;
 use lent::watch::tick;
 use oracle::random::Random;
+use ralikudo::generic::Library;
 use std::collections::BTreeMap;
 use std::time::{Duration, Instant};
 
@@ -28,12 +30,15 @@ impl Tally {
     }
 }
 
-pub struct Run {
+pub struct Run<const N: usize>
+where
+    Library: Kind<N>,
+{
     pub random: Random,
-    pub pair: Pair,
+    pub pair: Pair<N>,
     pub tally: Tally,
     most: u64,
-    log: Vec<Call>,
+    log: Vec<Call<N>>,
     pub failed: Option<String>,
     payload: u32,
 }
@@ -44,7 +49,10 @@ const SHORTENING: Duration = Duration::from_secs(5);
 /// Calls that are kept for the case that one fails; a longer sequence begins anew.
 const LONGEST: usize = 4000;
 
-impl Run {
+impl<const N: usize> Run<N>
+where
+    Library: Kind<N>,
+{
     pub fn new(seed: u64, most: u64) -> Self {
         Run {
             random: Random::new(seed),
@@ -68,7 +76,7 @@ impl Run {
     }
 
     /// Asks both sides and gives the reply number; nothing is asked any more once they differ.
-    pub fn say(&mut self, call: Call) -> u8 {
+    pub fn say(&mut self, call: Call<N>) -> u8 {
         if self.failed.is_some() {
             return 0;
         }
@@ -102,14 +110,20 @@ impl Run {
 }
 
 /// What a sequence shows, from memory that holds no tree.
-fn fails(calls: &[Call]) -> Option<String> {
+fn fails<const N: usize>(calls: &[Call<N>]) -> Option<String>
+where
+    Library: Kind<N>,
+{
     let mut pair = Pair::default();
     tick();
     calls.iter().find_map(|call| pair.ask(call).err())
 }
 
 /// As few of the calls as still fail, with what they show.
-fn smallest(log: &[Call], what: String) -> String {
+fn smallest<const N: usize>(log: &[Call<N>], what: String) -> String
+where
+    Library: Kind<N>,
+{
     let mut calls = log.to_vec();
     let mut what = fails(&calls).unwrap_or(what);
     let mut many = calls.len();

@@ -1,7 +1,9 @@
-//! Compares our quadtree with the Rust's, call by call. The word MILLIONS says how many calls there are in all.
+//! Compares a tree of ours with the Rust's, call by call. The words are quadtree or octree, and MILLIONS, which says
+//! how many calls there are in all.
 
 mod call;
 mod draw;
+mod kind;
 mod pair;
 mod run;
 mod rust;
@@ -10,18 +12,29 @@ mod shape;
 mod short;
 mod streams;
 
+use kind::{Kind, SpaceOf};
 use lent::watch::two_at_a_time;
+use lent::words::{words, Tree};
 use oracle::check::Report;
+use oracle::room::most_nodes;
+use oracle::space::Space;
+use ralikudo::generic::Library;
 use run::{Run, Tally};
 use std::process::ExitCode;
 use std::sync::Mutex;
 
 /// A test: its name, and what it does with a seed and a number of calls.
-type Test = (String, Box<dyn Fn(u64, u64) -> Run + Sync>);
+type Test<const N: usize> = (String, Box<dyn Fn(u64, u64) -> Run<N> + Sync>);
 
-fn tests() -> Vec<Test> {
-    let mut all: Vec<Test> = Vec::new();
-    for (name, round, share) in sequences::KINDS {
+/// What a test reached, and how it failed.
+type Came = (Tally, Option<String>);
+
+fn tests<const N: usize>() -> Vec<Test<N>>
+where
+    Library: Kind<N>,
+{
+    let mut all: Vec<Test<N>> = Vec::new();
+    for (name, round, share) in sequences::kinds() {
         let test = move |seed, most| {
             let mut run = Run::new(seed, most / share);
             while !run.done() {
@@ -29,7 +42,7 @@ fn tests() -> Vec<Test> {
             }
             run
         };
-        all.push((name.into(), Box::new(test)));
+        all.push((name, Box::new(test)));
     }
     for kind in streams::KINDS {
         let test = move |seed: u64, most| {
@@ -50,15 +63,22 @@ fn tests() -> Vec<Test> {
     all
 }
 
-/// 120,960 sequences of 9 calls there are; of fewer every so many-th is taken.
-fn short_merges(seed: u64, most: u64) -> Run {
+/// All choices of places, or every so many-th where there are fewer calls.
+fn short_merges<const N: usize>(seed: u64, most: u64) -> Run<N>
+where
+    Library: Kind<N>,
+{
     let mut run = Run::new(seed, u64::MAX);
-    short::merges(&mut run, (1_088_640 / most.max(1)).clamp(1, 1680) as usize);
+    let choices = short::choices(N);
+    short::merges(&mut run, (choices * short::CALLS / most.max(1) as usize).clamp(1, choices));
     run
 }
 
 /// Sequences of as many steps as the calls allow.
-fn short_steps(seed: u64, most: u64) -> Run {
+fn short_steps<const N: usize>(seed: u64, most: u64) -> Run<N>
+where
+    Library: Kind<N>,
+{
     let mut run = Run::new(seed, u64::MAX);
     let calls = |length: u32| 2 * 8u64.pow(length) * u64::from(length + 2);
     short::steps(&mut run, (1..7).take_while(|length| calls(*length) <= most.max(300)).last().unwrap_or(1));
@@ -66,12 +86,15 @@ fn short_steps(seed: u64, most: u64) -> Run {
 }
 
 /// What each test came to, in order; nothing of one that stopped.
-fn all(tests: &[Test], calls: u64) -> Vec<Option<Run>> {
-    let runs: Vec<Mutex<Option<Run>>> = tests.iter().map(|_| Mutex::new(None)).collect();
-    let name = |number: usize| format!("quadtree {}", tests[number].0);
+fn all<const N: usize>(tests: &[Test<N>], calls: u64) -> Vec<Option<Came>>
+where
+    Library: Kind<N>,
+{
+    let runs: Vec<Mutex<Option<Came>>> = tests.iter().map(|_| Mutex::new(None)).collect();
+    let name = |number: usize| format!("{} {}", SpaceOf::<N>::NAME, tests[number].0);
     two_at_a_time(tests.len(), name, |number| {
-        let run = (tests[number].1)(number as u64 + 1, calls);
-        *runs[number].lock().expect("nobody else takes it") = Some(run);
+        let Run { tally, failed, .. } = (tests[number].1)(number as u64 + 1, calls);
+        *runs[number].lock().expect("nobody else takes it") = Some((tally, failed));
     });
     runs.into_iter().map(|run| run.into_inner().ok().flatten()).collect()
 }
@@ -91,7 +114,7 @@ const WANTED: [(&str, &[u8]); 11] = [
     ("knn_search", &[0, 7]),
 ];
 
-fn coverage(tally: &Tally) -> Result<String, String> {
+fn coverage(axes: usize, tally: &Tally) -> Result<String, String> {
     let many = |name, reply| tally.replies.get(&(name, reply)).copied().unwrap_or(0);
     let mut lines = Vec::new();
     for (name, replies) in WANTED {
@@ -101,34 +124,42 @@ fn coverage(tally: &Tally) -> Result<String, String> {
             return Err(format!("{name} got {reply} only {} times", many(name, *reply)));
         }
     }
-    if (tally.most_points, tally.most_nodes) != (512, 341) {
-        return Err(format!("at most {} points and {} nodes", tally.most_points, tally.most_nodes));
+    let reached = format!("{} points and {} nodes", tally.most_points, tally.most_nodes);
+    if (tally.most_points, tally.most_nodes) != (512, most_nodes(axes)) {
+        return Err(format!("at most {reached}"));
     }
-    Ok(format!("{} calls, up to 512 points and 341 nodes; {}", tally.calls, lines.join("; ")))
+    Ok(format!("{} calls, up to {reached}; {}", tally.calls, lines.join("; ")))
 }
 
-fn main() -> ExitCode {
-    let millions = std::env::args().nth(1).map_or(Ok(1.0), |word| word.parse::<f64>());
-    let Ok(millions) = millions else {
-        eprintln!("oracle: quadtree takes a number of millions of calls");
-        return ExitCode::from(2);
-    };
-    let tests = tests();
+/// All tests of the tree with so many axes: whether they passed.
+fn compare<const N: usize>(millions: f64) -> bool
+where
+    Library: Kind<N>,
+{
+    let tests = tests::<N>();
     let calls = (millions * 1e6 / tests.len() as f64) as u64;
     let mut report = Report::default();
     let mut tally = Tally::default();
     for ((name, _), run) in tests.iter().zip(all(&tests, calls)) {
-        let outcome = run.map_or(Err("it stopped".into()), |run| {
-            tally.join(&run.tally);
-            let what = format!("{} calls", run.tally.calls);
-            run.failed.map_or(Ok(what), Err)
+        let outcome = run.map_or(Err("it stopped".into()), |(of_run, failed)| {
+            tally.join(&of_run);
+            failed.map_or(Ok(format!("{} calls", of_run.calls)), Err)
         });
-        report.test(&format!("quadtree {name}"), outcome);
+        report.test(&format!("{} {name}", SpaceOf::<N>::NAME), outcome);
     }
-    report.test("quadtree coverage", coverage(&tally));
-    if report.all_passed() {
-        ExitCode::SUCCESS
-    } else {
-        ExitCode::FAILURE
-    }
+    report.test(&format!("{} coverage", SpaceOf::<N>::NAME), coverage(N, &tally));
+    report.all_passed()
+}
+
+fn main() -> ExitCode {
+    let passed = match words() {
+        Some((Tree::Quadtree, millions)) => compare::<2>(millions),
+        #[cfg(feature = "octree")]
+        Some((Tree::Octree, millions)) => compare::<3>(millions),
+        _ => {
+            eprintln!("oracle: the words are quadtree or octree, and a number of millions of calls");
+            return ExitCode::from(2);
+        }
+    };
+    ExitCode::from(u8::from(!passed))
 }

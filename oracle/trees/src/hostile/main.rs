@@ -1,6 +1,6 @@
-//! Asks our quadtree about damaged pieces: each call must end, answer 8 exactly where the test of soundness over
-//! in `lent::sound` says that the tree is not sound, and then change nothing. The word MILLIONS says how many
-//! pieces there are in all.
+//! Asks a tree of ours about damaged pieces: each call must end, answer 8 exactly where the test of soundness over
+//! in `lent::sound` says that the tree is not sound, and then change nothing. The words are quadtree or octree, and
+//! MILLIONS, which says how many pieces there are in all.
 
 mod asks;
 mod base;
@@ -14,8 +14,10 @@ use lent::layout::*;
 use lent::memory::Memory;
 use lent::sound::sound;
 use lent::watch::{tick, two_at_a_time};
+use lent::words::{words, Tree};
 use oracle::check::Report;
 use oracle::random::Random;
+use ralikudo::generic::{Axes, Library};
 use std::process::ExitCode;
 use std::sync::Mutex;
 
@@ -24,15 +26,15 @@ const FROM_ONE: u64 = 400;
 /// Each piece is asked one call in turn, and every so many-th all of them, these also where memory ends.
 const ALL_CALLS: u64 = 16;
 
-/// The kinds after those of `damage::KINDS`.
-const MEANINGLESS: usize = damage::KINDS.len();
+/// The kinds after those of `damage::kinds`.
+const MEANINGLESS: usize = damage::MANY;
 const LENGTH: usize = MEANINGLESS + 1;
 
 fn name(kind: usize) -> &'static str {
     match kind {
         MEANINGLESS => "bytes that mean nothing",
         LENGTH => "lengths",
-        _ => damage::KINDS[kind].0,
+        _ => damage::kinds::<2>()[kind].0,
     }
 }
 
@@ -46,25 +48,26 @@ struct Tally {
 }
 
 /// Pieces of the right length, but for one at least.
-fn lengths(random: &mut Random) -> [usize; 4] {
-    let mut lengths = LENGTHS;
+fn wrong_lengths(axes: usize, random: &mut Random) -> [usize; 4] {
+    let mut wrong = lengths(axes);
+    let place = 4 * point_words(axes);
     for _ in 0..random.between(1, 2) {
         let piece = random.below(4) as usize;
-        let right = LENGTHS[piece];
-        lengths[piece] = match random.below(6) {
+        let right = lengths(axes)[piece];
+        wrong[piece] = match random.below(6) {
             0 => 0,
             1 => random.below(right as u64) as usize,
             2 => right - 1,
-            3 => right - *random.pick(&[4, 8, 16, 24]),
+            3 => right - *random.pick(&[4, 8, 16, place]),
             4 => right + 1,
-            _ => right + *random.pick(&[4, 8, 16, 24, 60]),
+            _ => right + *random.pick(&[4, 8, 16, place, 60]),
         };
     }
-    lengths
+    wrong
 }
 
 /// Where two memories differ, in words: the piece, the word, before and after.
-fn differences(base: &Memory, other: &Memory) -> String {
+fn differences<const N: usize>(base: &Memory<N>, other: &Memory<N>) -> String {
     let names = ["head", "nodes", "links", "points"];
     let pairs = base.pieces().into_iter().zip(other.pieces()).zip(names);
     let differ = |((a, b), name): ((&[u8], &[u8]), &'static str)| {
@@ -78,29 +81,33 @@ fn differences(base: &Memory, other: &Memory) -> String {
 }
 
 /// The memory that all pieces of a kind stand in, one after the other.
-struct Stage {
-    memory: Memory,
-    before: Memory,
+struct Stage<const N: usize> {
+    memory: Memory<N>,
+    before: Memory<N>,
     fence: Fence,
 }
 
 /// One damaged piece, asked one call or all.
-fn piece(kind: usize, number: u64, base: &Base, stage: &mut Stage, tally: &mut Tally) {
+fn piece<const N: usize>(kind: usize, number: u64, base: &Base<N>, stage: &mut Stage<N>, tally: &mut Tally)
+where
+    Library: Axes<N>,
+{
     let Stage { memory, before, fence } = stage;
     let mut random = Random::new(number * 64 + kind as u64);
     memory.copy(&base.memory);
-    let mut at_lengths = LENGTHS;
+    let mut at_lengths = lengths(N);
     match kind {
         MEANINGLESS => damage::meaningless(&mut random, base, memory),
-        LENGTH => at_lengths = lengths(&mut random),
-        _ => damage::KINDS[kind].1(&mut random, base, memory),
+        LENGTH => at_lengths = wrong_lengths(N, &mut random),
+        _ => damage::kinds()[kind].1(&mut random, base, memory),
     }
     before.copy(memory);
-    let is_sound = at_lengths == LENGTHS && sound(memory.pieces());
+    let is_sound = at_lengths == lengths(N) && sound::<N>(memory.pieces());
     tally.pieces += 1;
     tally.sound += u64::from(is_sound);
     let place = base.any_place(&mut random);
-    let words = Words::new(&mut random, at(before.pieces()[3], place), payload(before.pieces()[3], place));
+    let points = before.pieces()[3];
+    let words = Words::new(&mut random, at(points, place), payload::<N>(points, place));
     let first = (number % CALLS.len() as u64) as usize;
     let many = if number % ALL_CALLS == 0 { CALLS.len() } else { 1 };
     for turn in 0..many {
@@ -123,10 +130,13 @@ fn piece(kind: usize, number: u64, base: &Base, stage: &mut Stage, tally: &mut T
     }
 }
 
-fn run(kind: usize, pieces: u64) -> Tally {
+fn run<const N: usize>(kind: usize, pieces: u64) -> Tally
+where
+    Library: Axes<N>,
+{
     let mut tally = Tally::default();
     let mut stage = Stage { memory: Memory::default(), before: Memory::default(), fence: Fence::new() };
-    let mut base: Result<Base, String> = Err(String::new());
+    let mut base: Result<Base<N>, String> = Err(String::new());
     for number in 0..pieces {
         if number % FROM_ONE == 0 {
             base = Base::new(number / FROM_ONE);
@@ -143,38 +153,50 @@ fn run(kind: usize, pieces: u64) -> Tally {
     tally
 }
 
-/// What every kind came to.
-fn all(pieces: u64) -> Vec<Tally> {
+/// What every kind came to, of the tree of this name.
+fn all<const N: usize>(tree: &str, pieces: u64) -> Vec<Tally>
+where
+    Library: Axes<N>,
+{
     let tallies: Vec<Mutex<Tally>> = (0..=LENGTH).map(|_| Mutex::default()).collect();
     two_at_a_time(
         tallies.len(),
-        |kind| format!("hostile {}", name(kind)),
+        |kind| format!("hostile {tree} {}", name(kind)),
         |kind| {
-            *tallies[kind].lock().expect("nobody else takes it") = run(kind, pieces);
+            *tallies[kind].lock().expect("nobody else takes it") = run::<N>(kind, pieces);
         },
     );
     tallies.into_iter().filter_map(|tally| tally.into_inner().ok()).collect()
 }
 
-fn main() -> ExitCode {
-    let millions = std::env::args().nth(1).map_or(Ok(1.0), |word| word.parse::<f64>());
-    let Ok(millions) = millions else {
-        eprintln!("oracle: hostile takes a number of millions of damaged pieces");
-        return ExitCode::from(2);
-    };
+/// All kinds of damage to the tree of this name and so many axes: whether they passed.
+fn ask_all<const N: usize>(tree: &str, millions: f64) -> bool
+where
+    Library: Axes<N>,
+{
     let mut report = Report::default();
     let each = (millions * 1e6 / (LENGTH + 1) as f64) as u64;
     let mut calls = 0;
-    for (kind, tally) in all(each).into_iter().enumerate() {
+    for (kind, tally) in all::<N>(tree, each).into_iter().enumerate() {
         calls += tally.calls;
         let what = format!("{} pieces, {} of them still sound", tally.pieces, tally.sound);
         let stopped = (tally.pieces < each).then(|| format!("it stopped after {what}"));
-        report.test(&format!("hostile {}", name(kind)), tally.failed.or(stopped).map_or(Ok(what), Err));
+        report
+            .test(&format!("hostile {tree} {}", name(kind)), tally.failed.or(stopped).map_or(Ok(what), Err));
     }
-    report.note(&format!("{calls} calls on damaged pieces"));
-    if report.all_passed() {
-        ExitCode::SUCCESS
-    } else {
-        ExitCode::FAILURE
-    }
+    report.note(&format!("{calls} calls on damaged pieces of the {tree}"));
+    report.all_passed()
+}
+
+fn main() -> ExitCode {
+    let passed = match words() {
+        Some((Tree::Quadtree, millions)) => ask_all::<2>("quadtree", millions),
+        #[cfg(feature = "octree")]
+        Some((Tree::Octree, millions)) => ask_all::<3>("octree", millions),
+        _ => {
+            eprintln!("oracle: the words are quadtree or octree, and a number of millions of damaged pieces");
+            return ExitCode::from(2);
+        }
+    };
+    ExitCode::from(u8::from(!passed))
 }

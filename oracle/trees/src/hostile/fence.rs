@@ -1,7 +1,7 @@
 //! Pieces that end where memory ends: a read behind one stops the program.
 
 use lent::memory::Memory;
-use ralikudo::calls::Lent;
+use ralikudo::generic::Lent;
 use std::ffi::c_void;
 
 extern "C" {
@@ -19,7 +19,7 @@ pub struct Fence {
 }
 
 /// Pages for the longest piece, and a little more.
-const ROOM: usize = 4 * PAGE;
+const ROOM: usize = 5 * PAGE;
 
 impl Fence {
     pub fn new() -> Self {
@@ -34,7 +34,7 @@ impl Fence {
     }
 
     /// A copy of the pieces at these lengths, each up to the end.
-    pub fn lent(&mut self, memory: &mut Memory, lengths: [usize; 4]) -> Lent<'_> {
+    pub fn lent<const N: usize>(&mut self, memory: &mut Memory<N>, lengths: [usize; 4]) -> Lent<'_, N> {
         let mut ends = self.ends.into_iter();
         let [head, nodes, links, points] = memory.lengths_mut(lengths).map(|piece| {
             let end = ends.next().expect("four pieces");

@@ -6,8 +6,8 @@ use lent::memory::{Answer, Memory};
 use lent::sound::sound;
 use oracle::random::Random;
 use oracle::rules::boxes;
-use ralikudo::calls::Lent;
-use ralikudo::{bytes, Point2D, Rectangle, Reply};
+use ralikudo::generic::{bytes, Axes, Lent, Library, Point, Volume};
+use ralikudo::Reply;
 
 pub const CALLS: [&str; 11] = [
     "insert",
@@ -28,20 +28,21 @@ const OTHERS: [&[u32]; 11] =
     [&[0, 1, 5, 6], &[0, 1, 2], &[0, 5, 6], &[0], &[0], &[0], &[0], &[0, 7], &[0, 7], &[0, 7], &[0, 3, 4]];
 
 /// The numbers that a call is asked with.
-pub struct Words {
-    point: Point2D,
-    boundary: Rectangle,
+pub struct Words<const N: usize> {
+    point: Point<N>,
+    boundary: Volume<N>,
     capacity: u32,
     room: usize,
 }
 
-impl Words {
-    pub fn new(random: &mut Random, held: [f64; 2], payload: u32) -> Self {
-        let [x, y] = if random.once_in(2) { held } else { [8.0 * random.unit(), 8.0 * random.unit()] };
-        let width = *random.pick(&[8.0, 8.0, 0.0, -1.0, f64::NAN]);
+impl<const N: usize> Words<N> {
+    pub fn new(random: &mut Random, held: [f64; N], payload: u32) -> Self {
+        let at = if random.once_in(2) { held } else { [0; N].map(|_| 8.0 * random.unit()) };
+        let mut boundary = even(0.0, 8.0);
+        boundary.extent[0] = *random.pick(&[8.0, 8.0, 0.0, -1.0, f64::NAN]);
         Words {
-            point: Point2D { x, y, payload },
-            boundary: Rectangle { x: 0.0, y: 0.0, width, height: 8.0 },
+            point: Point { at, payload },
+            boundary,
             capacity: random.below(4) as u32,
             room: *random.pick(&[0, 1, 512]),
         }
@@ -49,62 +50,72 @@ impl Words {
 }
 
 /// Makes a call by its number.
-fn call(number: usize, words: &Words, mut lent: Lent, answer: &mut Answer) -> Reply {
+fn call<const N: usize>(number: usize, words: &Words<N>, mut lent: Lent<N>, answer: &mut Answer<N>) -> Reply
+where
+    Library: Axes<N>,
+{
     let Words { point, boundary, capacity, .. } = words;
-    let Point2D { x, y, payload } = *point;
+    let Point { at, payload } = *point;
     match number {
         0 => lent.insert(*point),
         1 => lent.delete(*point),
         2 => {
-            let coords = [x, y, y, x].map(f64::to_le_bytes).concat();
-            lent.insert_bulk(&coords, &[payload.to_le_bytes(); 2].concat())
+            let turned = std::array::from_fn(|axis| at[N - 1 - axis]);
+            let (coords, payloads) = bytes(&[*point, Point { at: turned, payload }]);
+            lent.insert_bulk(&coords, &payloads)
         }
         3 => lent.shared().contains(*point),
         4 => lent.shared().count(),
         5 => lent.shared().is_empty(),
         6 => lent.clear(),
-        7 => lent.shared().range_search(x, y, 2.0, answer.lent()),
+        7 => lent.shared().range_search_at(at, 2.0, answer.lent()),
         8 => {
-            let query = Rectangle { x, y, width: 8.0, height: 8.0 };
+            let query = Volume { corner: at, extent: [8.0; N] };
             lent.shared().range_search_bbox(query, answer.lent())
         }
-        9 => lent.shared().knn_search(x, y, 1 + payload % 9, answer.lent()),
+        9 => lent.shared().knn_search_at(at, 1 + payload % 9, answer.lent()),
         _ => lent.create(*boundary, *capacity),
     }
 }
 
 /// The points of sound pieces in the order of the tree.
-fn held(memory: &Memory) -> Vec<Point2D> {
+fn held<const N: usize>(memory: &Memory<N>) -> Vec<Point<N>> {
     let [_, nodes, links, points] = memory.pieces();
-    let leaves = tree_nodes(nodes).into_iter().filter(|(node, _)| field(nodes, *node, GROUP) == 0);
+    let leaves = tree_nodes(N, nodes).into_iter().filter(|(node, _)| field(nodes, *node, GROUP) == 0);
     let places = leaves.flat_map(|(leaf, _)| chain(links, field(nodes, leaf, FIRST)));
-    let point = |place: usize| {
-        let [x, y] = at(points, place);
-        Point2D { x, y, payload: payload(points, place) }
-    };
-    places.map(point).collect()
+    places.map(|place| Point { at: at(points, place), payload: payload::<N>(points, place) }).collect()
 }
 
 /// What a query must give on sound pieces, found by looking at every point: the figure, or the answer.
-fn by_scan(number: usize, words: &Words, memory: &Memory) -> Option<(u32, Vec<Point2D>)> {
-    let Point2D { x, y, payload } = words.point;
+fn by_scan<const N: usize>(
+    number: usize,
+    words: &Words<N>,
+    memory: &Memory<N>,
+) -> Option<(u32, Vec<Point<N>>)> {
+    let Point { at, payload } = words.point;
     let all = held(memory);
-    let found = |keep: &dyn Fn(&Point2D) -> bool| {
-        let list: Vec<Point2D> = all.iter().copied().filter(|p| keep(p)).collect();
+    let found = |keep: &dyn Fn(&Point<N>) -> bool| {
+        let list: Vec<Point<N>> = all.iter().copied().filter(|p| keep(p)).collect();
         Some((list.len() as u32, list))
     };
     match number {
-        3 => Some((u32::from(all.iter().any(|p| p.x == x && p.y == y && p.payload == payload)), vec![])),
+        3 => Some((u32::from(all.iter().any(|p| boxes::same(&p.at, &at) && p.payload == payload)), vec![])),
         4 => Some((all.len() as u32, vec![])),
         5 => Some((u32::from(all.is_empty()), vec![])),
-        7 => found(&|p| boxes::squared(&[p.x, p.y], &[x, y]) <= 4.0),
-        8 => found(&|p| boxes::inside(&[x, y, 8.0, 8.0], &[p.x, p.y])),
+        7 => found(&|p| boxes::squared(&p.at, &at) <= 4.0),
+        8 => found(&|p| boxes::inside(&[at, [8.0; N]].concat(), &p.at)),
         _ => None,
     }
 }
 
 /// Whether a query on sound pieces gave what a look at every point gives.
-fn right(number: usize, words: &Words, reply: Reply, memory: &Memory, answer: &Answer) -> Result<(), String> {
+fn right<const N: usize>(
+    number: usize,
+    words: &Words<N>,
+    reply: Reply,
+    memory: &Memory<N>,
+    answer: &Answer<N>,
+) -> Result<(), String> {
     let Some((figure, list)) = by_scan(number, words, memory) else { return Ok(()) };
     let wanted = match list.len() > words.room {
         true => Reply { number: 7, figure: 0 },
@@ -121,14 +132,17 @@ fn right(number: usize, words: &Words, reply: Reply, memory: &Memory, answer: &A
 }
 
 /// Asks one call of a copy that ends where memory ends: the reply is the same, and nothing behind is read.
-pub fn ask_fenced(
+pub fn ask_fenced<const N: usize>(
     number: usize,
-    words: &Words,
+    words: &Words<N>,
     lengths: [usize; 4],
-    memory: &mut Memory,
+    memory: &mut Memory<N>,
     fence: &mut Fence,
-) -> Result<(), String> {
-    let mut answer = Answer::new(16 * words.room, 4 * words.room);
+) -> Result<(), String>
+where
+    Library: Axes<N>,
+{
+    let mut answer = Answer::of(words.room);
     let fenced = call(number, words, fence.lent(memory, lengths), &mut answer);
     let before = memory.clone();
     let plain = call(number, words, memory.lent_at(lengths), &mut answer);
@@ -141,18 +155,21 @@ pub fn ask_fenced(
 
 /// Asks one call of pieces that are sound or not. `before` has the same bytes, and `memory` has them again
 /// afterwards.
-pub fn ask(
+pub fn ask<const N: usize>(
     number: usize,
-    words: &Words,
+    words: &Words<N>,
     is_sound: bool,
-    lengths: [usize; 4],
-    memory: &mut Memory,
-    before: &Memory,
-) -> Result<(), String> {
-    let mut answer = Answer::new(16 * words.room, 4 * words.room);
-    let reply = call(number, words, memory.lent_at(lengths), &mut answer);
+    at_lengths: [usize; 4],
+    memory: &mut Memory<N>,
+    before: &Memory<N>,
+) -> Result<(), String>
+where
+    Library: Axes<N>,
+{
+    let mut answer = Answer::of(words.room);
+    let reply = call(number, words, memory.lent_at(at_lengths), &mut answer);
     let creates = number == 10;
-    let refused_by_8 = if creates { lengths != LENGTHS } else { !is_sound };
+    let refused_by_8 = if creates { at_lengths != lengths(N) } else { !is_sound };
     if refused_by_8 && reply != (Reply { number: 8, figure: 0 }) {
         return Err(format!("{} gives {reply:?} on pieces that are not sound", CALLS[number]));
     }
@@ -169,7 +186,7 @@ pub fn ask(
     }
     let may_change = [0, 1, 2, 6, 10].contains(&number) && (reply.number == 0 || reply.figure > 0);
     if may_change {
-        let whole = memory.margins_untouched() && sound(memory.pieces());
+        let whole = memory.margins_untouched() && sound::<N>(memory.pieces());
         memory.copy(before);
         return if whole { Ok(()) } else { Err(format!("{} leaves an unsound tree", CALLS[number])) };
     }

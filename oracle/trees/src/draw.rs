@@ -1,31 +1,29 @@
 //! Numbers, points and calls drawn at random, with a bent for the edges.
 
 use crate::call::{Call, Room};
+use crate::kind::Kind;
 use crate::run::Run;
+use lent::layout::{sides, volume};
 use oracle::bits::special;
 use oracle::generate::{on_grid, stepped_side};
 use oracle::random::Random;
-use ralikudo::{Point2D, Rectangle};
+use ralikudo::generic::{Library, Point, Volume};
 
 /// How places are drawn.
 #[derive(Clone)]
-pub enum Places {
+pub enum Places<const N: usize> {
     Uniform,
     /// On corners, far edges and midplanes down to this depth, or a double or two off.
     Grid(i64),
     /// Closer and closer to these.
-    Near(Vec<[f64; 2]>),
+    Near(Vec<[f64; N]>),
     /// These only.
-    Few(Vec<[f64; 2]>),
+    Few(Vec<[f64; N]>),
     /// Special values, mostly ones inside.
     Special,
 }
 
-pub fn sides(r: &Rectangle) -> [(f64, f64); 2] {
-    [(r.x, r.width), (r.y, r.height)]
-}
-
-fn uniform(random: &mut Random, r: &Rectangle) -> [f64; 2] {
+fn uniform<const N: usize>(random: &mut Random, r: &Volume<N>) -> [f64; N] {
     sides(r).map(|(corner, extent)| corner + extent * random.unit())
 }
 
@@ -34,8 +32,8 @@ fn special_in(random: &mut Random, (corner, extent): (f64, f64)) -> f64 {
     drawn.find(|v| corner <= *v && *v <= corner + extent).unwrap_or(corner)
 }
 
-impl Places {
-    pub fn any(random: &mut Random, r: &Rectangle) -> Places {
+impl<const N: usize> Places<N> {
+    pub fn any(random: &mut Random, r: &Volume<N>) -> Self {
         let few = |random: &mut Random, most: i64| {
             (0..random.between(1, most)).map(|_| uniform(random, r)).collect::<Vec<_>>()
         };
@@ -49,7 +47,7 @@ impl Places {
         }
     }
 
-    pub fn draw(&self, random: &mut Random, r: &Rectangle) -> [f64; 2] {
+    pub fn draw(&self, random: &mut Random, r: &Volume<N>) -> [f64; N] {
         if random.once_in(40) {
             return odd(random, r);
         }
@@ -59,7 +57,7 @@ impl Places {
             Places::Near(centres) => {
                 let centre = *random.pick(centres);
                 let scale = 2f64.powi(-(random.between(1, 36) as i32));
-                [0, 1].map(|axis| centre[axis] + sides(r)[axis].1 * scale * (random.unit() - 0.5))
+                std::array::from_fn(|axis| centre[axis] + r.extent[axis] * scale * (random.unit() - 0.5))
             }
             Places::Few(places) => *random.pick(places),
             Places::Special => sides(r).map(|side| special_in(random, side)),
@@ -68,9 +66,9 @@ impl Places {
 }
 
 /// Just outside, far outside, or with a special value.
-fn odd(random: &mut Random, r: &Rectangle) -> [f64; 2] {
+fn odd<const N: usize>(random: &mut Random, r: &Volume<N>) -> [f64; N] {
     let mut at = uniform(random, r);
-    let axis = random.below(2) as usize;
+    let axis = random.below(N as u64) as usize;
     let (corner, extent) = sides(r)[axis];
     at[axis] = match random.below(4) {
         0 => corner.next_down(),
@@ -81,12 +79,8 @@ fn odd(random: &mut Random, r: &Rectangle) -> [f64; 2] {
     at
 }
 
-pub fn rectangle(corners: [f64; 2], extents: [f64; 2]) -> Rectangle {
-    Rectangle { x: corners[0], y: corners[1], width: extents[0], height: extents[1] }
-}
-
 /// A boundary that is accepted, except once in a while.
-pub fn boundary(random: &mut Random) -> Rectangle {
+pub fn boundary<const N: usize>(random: &mut Random) -> Volume<N> {
     let most = 2f64.powi(500);
     let mut side = || match random.below(14) {
         0..=3 => (0.0, 8.0),
@@ -100,11 +94,12 @@ pub fn boundary(random: &mut Random) -> Rectangle {
         12 => (1.0, 1e-20),
         _ => (*random.pick(&[0.0, -0.0, most]), most),
     };
-    let [a, b] = [side(), side()];
-    let mut made = rectangle([a.0, b.0], [a.1, b.1]);
+    let mut made = volume(std::array::from_fn(|_| side()));
     if random.once_in(60) {
         let value = special(random.bits());
-        *[&mut made.x, &mut made.y, &mut made.width, &mut made.height][random.below(4) as usize] = value;
+        let Volume { corner, extent } = &mut made;
+        let mut numbers = corner.iter_mut().chain(extent);
+        *numbers.nth(random.below(2 * N as u64) as usize).expect("one of them") = value;
     }
     made
 }
@@ -118,7 +113,7 @@ pub fn capacity(random: &mut Random) -> u32 {
 }
 
 /// Mostly plenty; often just enough or one byte too few; or any.
-pub fn room(random: &mut Random) -> Room {
+pub fn room<const N: usize>(random: &mut Random) -> Room {
     let mut more = |size: i64| match random.below(12) {
         0 => 0,
         1 => -1,
@@ -127,14 +122,18 @@ pub fn room(random: &mut Random) -> Room {
         4 => -random.between(1, 600 * size),
         _ => 40 * size,
     };
-    Room { coords: more(16), payloads: more(4) }
+    Room { coords: more(8 * N as i64), payloads: more(4) }
 }
 
-fn radius(random: &mut Random, r: &Rectangle) -> f64 {
+fn widest<const N: usize>(r: &Volume<N>) -> f64 {
+    r.extent.into_iter().fold(f64::NAN, f64::max)
+}
+
+fn radius<const N: usize>(random: &mut Random, r: &Volume<N>) -> f64 {
     match random.below(8) {
         0 => *random.pick(&[0.0, -0.0, -1.0, f64::NAN, f64::INFINITY, f64::NEG_INFINITY, -f64::from_bits(1)]),
         1 => special(random.bits()),
-        _ => r.width.max(r.height) * 2f64.powi(-(random.between(0, 12) as i32)) * random.unit(),
+        _ => widest(r) * 2f64.powi(-(random.between(0, 12) as i32)) * random.unit(),
     }
 }
 
@@ -147,53 +146,66 @@ pub fn k(random: &mut Random, held: usize) -> u32 {
 }
 
 /// One of the points held, at times as an equal one that is not the same, or a point of these places.
-pub fn held(run: &mut Run, places: &Places, r: &Rectangle) -> Point2D {
+pub fn held<const N: usize>(run: &mut Run<N>, places: &Places<N>, r: &Volume<N>) -> Point<N>
+where
+    Library: Kind<N>,
+{
     let list = run.pair.rust.as_ref().map(|rust| rust.held()).unwrap_or_default();
     if list.is_empty() || run.random.once_in(12) {
-        let [x, y] = places.draw(&mut run.random, r);
-        let payload = run.random.below(4) as u32;
-        return Point2D { x, y, payload };
+        let at = places.draw(&mut run.random, r);
+        return Point { at, payload: run.random.below(4) as u32 };
     }
     let mut point = *run.random.pick(&list);
-    match run.random.below(12) {
+    match run.random.below(12) as usize {
         0 => point.payload = point.payload.wrapping_add(1),
-        1 => point.x = if point.x == 0.0 { -point.x } else { point.x.next_up() },
-        2 => point.y = if point.y == 0.0 { -point.y } else { point.y },
+        axis if axis <= N => another(&mut point.at, axis - 1),
         _ => {}
     }
     point
 }
 
+/// The other zero, or a double off; y keeps its place.
+fn another<const N: usize>(at: &mut [f64; N], axis: usize) {
+    at[axis] = match at[axis] {
+        0.0 => -at[axis],
+        _ if axis == 1 => at[axis],
+        _ => at[axis].next_up(),
+    }
+}
+
 /// A point with a new payload, or with one that others have.
-pub fn point(run: &mut Run, places: &Places, r: &Rectangle) -> Point2D {
-    let [x, y] = places.draw(&mut run.random, r);
+pub fn point<const N: usize>(run: &mut Run<N>, places: &Places<N>, r: &Volume<N>) -> Point<N>
+where
+    Library: Kind<N>,
+{
+    let at = places.draw(&mut run.random, r);
     let payload = if run.random.once_in(4) { run.random.below(3) as u32 } else { run.next_payload() };
-    Point2D { x, y, payload }
+    Point { at, payload }
 }
 
 /// A query, drawn over the same places.
-pub fn query(run: &mut Run, places: &Places, r: &Rectangle) -> Call {
+pub fn query<const N: usize>(run: &mut Run<N>, places: &Places<N>, r: &Volume<N>) -> Call<N>
+where
+    Library: Kind<N>,
+{
     let many = run.pair.rust.as_ref().map_or(0, |rust| rust.len());
     let at = match run.random.below(4) {
-        0 => {
-            let Point2D { x, y, .. } = held(run, places, r);
-            [x, y]
-        }
+        0 => held(run, places, r).at,
         _ => places.draw(&mut run.random, r),
     };
     let random = &mut run.random;
     match random.below(8) {
         0 => Call::Len,
         1 => Call::IsEmpty,
-        2 | 3 => Call::Radius(at, radius(random, r), room(random)),
+        2 | 3 => Call::Radius(at, radius(random, r), room::<N>(random)),
         4 | 5 => {
             let to = places.draw(random, r);
-            let extents = match random.below(4) {
-                0 => [radius(random, r), radius(random, r)],
-                _ => [to[0] - at[0], to[1] - at[1]],
-            };
-            Call::InBox(if random.once_in(6) { *r } else { rectangle(at, extents) }, room(random))
+            let by_radius = random.once_in(4);
+            let mut side = |axis| if by_radius { radius(random, r) } else { to[axis] - at[axis] };
+            let extent = std::array::from_fn(&mut side);
+            let query = if random.once_in(6) { *r } else { Volume { corner: at, extent } };
+            Call::InBox(query, room::<N>(random))
         }
-        _ => Call::Nearest(at, k(random, many), room(random)),
+        _ => Call::Nearest(at, k(random, many), room::<N>(random)),
     }
 }
