@@ -20,7 +20,7 @@ pub trait Space: 'static {
     type Item: Clone + PartialEq;
     type Metric: DistanceMetric<Self::Item>;
     /// The tree from the unchanged module.
-    type Tree: SpatialIndex<Item = Self::Item, Volume = Self::Volume> + Debug;
+    type Tree: SpatialIndex<Item = Self::Item, Volume = Self::Volume> + Clone + Debug;
     /// The same tree from the opened module.
     type Shape: SpatialIndex<Item = Self::Item, Volume = Self::Volume>
         + Opened<Volume = Self::Volume, Point = Self::Item>
@@ -33,6 +33,7 @@ pub trait Space: 'static {
     fn sides(volume: &Self::Volume) -> Vec<f64>;
     fn item(at: &[f64], payload: u32) -> Self::Item;
     fn point(item: &Self::Item) -> Point;
+    fn payload(item: &Self::Item) -> u32;
     /// The inherent `contains` of the box.
     fn volume_contains(volume: &Self::Volume, item: &Self::Item) -> bool;
     /// The inherent `is_empty` of the tree.
@@ -70,7 +71,10 @@ macro_rules! space {
                 $point { $($axis: at[$a],)* data: Some(payload) }
             }
             fn point(item: &Self::Item) -> Point {
-                Point { at: vec![$(item.$axis),*], payload: item.data.unwrap_or(0) }
+                Point { at: vec![$(item.$axis),*], payload: Self::payload(item) }
+            }
+            fn payload(item: &Self::Item) -> u32 {
+                item.data.unwrap_or(0)
             }
             fn volume_contains(volume: &$volume, item: &Self::Item) -> bool {
                 volume.contains(item)
