@@ -8,7 +8,7 @@ ghost use Rattle.geometry.specs.Sides.{place2, sides2};
 ghost use Rattle.trees.specs.Points.{pointAt};
 ghost use Rattle.trees.specs.Pieces.{pieces, Sane, Decides};
 ghost use Rattle.trees.proofs.Areas.{bounding, lows, tops, lies};
-ghost use Rattle.trees.proofs.Checks.{Checks, ListChecks};
+ghost use Rattle.trees.proofs.Checks.{Checks, LeafChecks, ListChecks};
 use geometry::axis::midplane;
 use geometry::plane::Point2D;
 use geometry::plane::Rectangle;
@@ -107,6 +107,30 @@ fn check_list(
     (left == 0) & (b == tail)
 }
 
+// Whether node i, where it is undivided, has a list within these bounds that is not too long. Its box is not asked for: most nodes are undivided, and a box costs time.
+fn check_leaf(
+    nodes: &[u8],
+    links: &[u8],
+    points: &[u8],
+    i: usize,
+    low: Point2D,
+    top: Point2D,
+    edge: Point2D,
+    levels: u8,
+    capacity: u32,
+    homes: &mut [u8],
+) -> bool
+    ensures { λ r. ⌜ LeafChecks 4 capacity (pointAt 2 (words (now (points .entry)))) (words (now (nodes .entry))) (words (now (links .entry))) levels (bounding (place2 low) (place2 top) (place2 edge)) i (now (homes .entry)) (now (homes .exit)) r ⌝ }
+{
+    let n = count(nodes, i);
+    if (levels > 0) & (n > capacity) {
+        return false;
+    }
+    let head = first(nodes, i);
+    let tail = last(nodes, i);
+    check_list(links, points, head, tail, n, low, top, edge, homes)
+}
+
 // Whether the words hold a tree at node i, which is there, with this box and these bounds and so many levels below it; what it meets is marked.
 fn check_node(
     nodes: &[u8],
@@ -125,15 +149,21 @@ fn check_node(
     ensures { λ r. ⌜ Checks 4 capacity (pointAt 2 (words (now (points .entry)))) (words (now (nodes .entry))) (words (now (links .entry))) levels (sides2 bounds) (bounding (place2 low) (place2 top) (place2 edge)) i (now (homes .entry)) (now (used .entry)) (now (homes .exit)) (now (used .exit)) r ⌝ }
 {
     let g = group(nodes, i);
-    let n = count(nodes, i);
     if g == 0 {
-        if (levels > 0) & (n > capacity) {
-            return false;
-        }
-        let head = first(nodes, i);
-        let tail = last(nodes, i);
-        return check_list(links, points, head, tail, n, low, top, edge, homes);
+        return check_leaf(
+            nodes,
+            links,
+            points,
+            i,
+            low,
+            top,
+            edge,
+            levels,
+            capacity,
+            homes,
+        );
     }
+    let n = count(nodes, i);
     if levels == 0 {
         return false;
     }
@@ -147,9 +177,16 @@ fn check_node(
     let mut c: u8 = 0;
     while c < 4 {
         let j = child(4, g, c);
-        let part = bounds.child(c as usize);
         let l = low_part(bounds, low, c);
         let t = top_part(bounds, top, c);
+        if group(nodes, j) == 0 {
+            if !check_leaf(nodes, links, points, j, l, t, edge, below, capacity, homes) {
+                return false;
+            }
+            c += 1;
+            continue;
+        }
+        let part = bounds.child(c as usize);
         if !check_node(
             nodes,
             links,
