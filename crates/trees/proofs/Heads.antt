@@ -1,7 +1,7 @@
 -- Tests that decide, the lengths of the pieces, the boundary and a payload as they are read. Assumes nothing.
 use mathlib.Core.Path.{_≡_, refl, ap, ap₂, _∙_, sym, subst}
 use mathlib.Core.Bool.{Bool, true, false, _&&_}
-use mathlib.Core.List.{List, zipWith}
+use mathlib.Core.List.{List, _∷_, zipWith}
 use Prim.Native.Nat.{ℕ, suc, _+_, _-_, _*_}
 use native.Mathlib.Nat.{suc-mul}
 use native.Mathlib.Numerals.{add-one}
@@ -9,7 +9,7 @@ use native.Mathlib.Omega.{arith}
 use lib.Dec.{T, eqb}
 use borrow.Author.Tests.{eqb-true, eq-eqb}
 use lib.ListN.{length, getD}
-use lib.Ieee.{Float}
+use lib.Ieee.{Float, binary64, ofBits}
 use Rattle.model.specs.Boxes.{Side}
 use Rattle.model.specs.Calls.{Kind, ways}
 use Rattle.words.specs.Words.{pairs}
@@ -56,6 +56,10 @@ base-is axes p = omega (arith, ap (λ (a : ℕ). a * p) (add-one axes), suc-mul 
 
 pub payload-at : (axes : ℕ) (w : List ℕ) (p from r : ℕ) → from ≡ (axes + 1) * p → r ≡ getD w (2 * from + 2 * axes) 0 → r ≡ pointAt axes w p .payload
 payload-at axes w p from r ef er = er ∙ ap (λ (k : ℕ). getD w (2 * k + 2 * axes) 0) ef
+
+-- one more float than those after it
+pub floats-more : (a : ℕ) (ns : List ℕ) (j j' : ℕ) (v : Float) (vs : List Float) → v ≡ ofBits binary64 (getD ns j 0) → j' ≡ j + 1 → vs ≡ floats a ns j' → v ∷ vs ≡ floats (suc a) ns j
+floats-more a ns j j' v vs e ej es = ap₂ {C = List Float} (λ u us. u ∷ us) e (es ∙ ap (floats a ns) ej)
 
 pub boundary-is : (axes : ℕ) (w : List ℕ) (cs es : List Float) → cs ≡ floats axes (pairs w) 0 → es ≡ floats axes (pairs w) axes → zipWith {C = Side} (λ c e. record { corner = c; extent = e }) cs es ≡ boundaryOf axes w
 boundary-is axes w cs es ec ee = ap₂ {C = List Side} (zipWith (λ c e. record { corner = c; extent = e })) ec ee
