@@ -141,13 +141,6 @@ module _ (axes : ℕ) (w : List ℕ) (p : ℕ) (from to : ℕ) (start : List ℕ
       done : floatBytes (floats (axes - a) (pairs w) (from + a)) ≡ []
       done = ap (λ (m : ℕ). floatBytes (floats m (pairs w) (from + a))) all ∙ floatBytes-none
 
--- ---- where the floats and the payload of a place stand
-pub base-is : (axes p : ℕ) → axes * p + p ≡ (axes + 1) * p
-base-is axes p = omega (arith, ap (λ (a : ℕ). a * p) (add-one axes), suc-mul axes p)
-
-pub payload-at : (axes : ℕ) (w : List ℕ) (p from r : ℕ) → from ≡ (axes + 1) * p → r ≡ getD w (2 * from + 2 * axes) 0 → r ≡ pointAt axes w p .payload
-payload-at axes w p from r ef er = er ∙ ap (λ (k : ℕ). getD w (2 * k + 2 * axes) 0) ef
-
 -- ---- the points of an answer
 places-next : (p : Point) (ps : List Point) → coordinates (p ∷ ps) ≡ floatBytes (p .at) ++ coordinates ps
 unfolding coordinates floatBytes flatten bytes

@@ -11,7 +11,8 @@ ghost use Rattle.trees.specs.Pieces as pieces;
 ghost use Rattle.trees.specs.Points.{pointAt};
 ghost use Rattle.trees.specs.Handed.{Handed};
 use floats::to_bits;
-use words::get;
+use pieces::base;
+use pieces::payload;
 use words::get_float;
 
 // The reply number and how many points were handed over.
@@ -61,14 +62,6 @@ fn room(axes: u8, coords: usize, payloads: usize) -> usize
     least(coords / (8 * (axes as usize)), payloads / 4)
 }
 
-// The number of the first float of place p.
-fn base(axes: u8, p: u32) -> usize
-    ensures { λ r. ⌜ r ≡ (axes + 1) * p ⌝ }
-    ensures near { λ r. ⌜ r < 1103806595072 ⌝ }
-{
-    (axes as usize) * (p as usize) + (p as usize)
-}
-
 // Writes the coordinates of the point in place p as number j of the answer, which there is room for.
 fn put_place(coords: &mut [u8], j: usize, axes: u8, points: &[u8], p: u32)
     requires { ⌜ axes * j + axes ≤ length (now coords) / 8 ⌝ }
@@ -83,13 +76,6 @@ fn put_place(coords: &mut [u8], j: usize, axes: u8, points: &[u8], p: u32)
         put_float(coords, to + a, x);
         a += 1;
     }
-}
-
-fn payload(axes: u8, points: &[u8], p: u32) -> u32
-    ensures { λ r. ⌜ r ≡ pointAt axes (words (now (points .entry))) p .payload ⌝ }
-{
-    let from = base(axes, p);
-    get(points, 2 * from + 2 * (axes as usize))
 }
 
 // Writes the points in the first n places found, which there is room for.

@@ -143,7 +143,7 @@ pub extern "C" fn quadtree_len(
         *count = 0;
         return 8;
     }
-    *count = ask::len(nodes);
+    *count = pieces::len(nodes);
     0
 }
 
@@ -162,7 +162,7 @@ pub extern "C" fn quadtree_is_empty(
         *yes = 0;
         return 8;
     }
-    *yes = ask::is_empty(nodes);
+    *yes = pieces::is_empty(nodes);
     0
 }
 

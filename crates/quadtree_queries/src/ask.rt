@@ -1,26 +1,12 @@
-// How many points are held, and whether a point is: len, is_empty and contains of the Rust. Yes is 1, no is 0.
-ghost use mathlib.Core.List.{List, [], _∷_};
-ghost use Prim.Native.Nat.{ℕ};
-ghost use Rattle.model.specs.Calls.{Contains, IsEmpty, Len, quadtree};
+// Whether a point is held: contains of the Rust. Yes is 1, no is 0.
+ghost use mathlib.Core.List.{[], _∷_};
+ghost use Rattle.model.specs.Calls.{Contains, quadtree};
 ghost use Rattle.trees.specs.Pieces.{AsksHeld, pieces};
 use geometry::plane::Point2D;
-use pool::count;
 use pool::first;
 use quadtree::descent::find_in;
 use quadtree::descent::leaf_of;
 use quadtree::head::boundary;
-
-pub fn len(nodes: &[u8]) -> u32
-    ensures { λ r. ⌜ ((h x p : List ℕ) → AsksHeld quadtree Len (pieces h (now (nodes .entry)) x p) 0 r) ⌝ }
-{
-    count(nodes, 1)
-}
-
-pub fn is_empty(nodes: &[u8]) -> u32
-    ensures { λ r. ⌜ ((h x p : List ℕ) → AsksHeld quadtree IsEmpty (pieces h (now (nodes .entry)) x p) 0 r) ⌝ }
-{
-    if count(nodes, 1) == 0 { 1 } else { 0 }
-}
 
 // A point inside the boundary is sought in the one list that it goes to.
 pub fn contains(

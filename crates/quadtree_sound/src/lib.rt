@@ -1,17 +1,18 @@
 // The soundness test: whether pieces of any bytes hold a sound quadtree. It marks every place and every group that it meets and stops at the first that
 // comes twice or lies outside, so that it ends, and visits no more than there are.
 ghost use mathlib.Core.Path.{_≡_};
-ghost use lib.Ieee.{nan};
 ghost use Rattle.words.specs.Words.{words};
 ghost use Rattle.model.specs.Calls.{quadtree};
 ghost use Rattle.geometry.specs.Sides.{place2, sides2};
 ghost use Rattle.trees.specs.Points.{pointAt};
 ghost use Rattle.trees.specs.Pieces.{pieces, Sane, Decides};
 ghost use Rattle.trees.proofs.Areas.{bounding, lows, tops, lies};
-ghost use Rattle.trees.proofs.Checks.{Checks, ListChecks};
+ghost use Rattle.trees.proofs.Checks.{Checks, LeafChecks, ListChecks};
 use geometry::axis::midplane;
 use geometry::plane::Point2D;
 use geometry::plane::Rectangle;
+use pieces::capacity;
+use pieces::fits;
 use pool::child;
 use pool::count;
 use pool::first;
@@ -20,26 +21,13 @@ use pool::last;
 use pool::next;
 use quadtree::head::accepts;
 use quadtree::head::boundary;
-use quadtree::head::capacity;
-use quadtree::head::fits;
 use quadtree::place::point_at;
-use sound::all_met;
 use sound::children_count;
 use sound::claim;
-use sound::free_groups;
-use sound::free_places;
 use sound::low_half;
+use sound::no_top;
+use sound::rest_is_free;
 use sound::top_half;
-
-const NAN: u64 = 0x7ff8_0000_0000_0000;
-
-// What bounds nothing from above.
-fn no_top() -> Point2D
-    ensures { λ r. ⌜ (r .x ≡ nan) × (r .y ≡ nan) ⌝ }
-{
-    let none = floats::from_bits(NAN);
-    Point2D { x: none, y: none }
-}
 
 // The low ends of child c of a node with this box.
 fn low_part(bounds: Rectangle, low: Point2D, c: u8) -> Point2D
@@ -107,6 +95,30 @@ fn check_list(
     (left == 0) & (b == tail)
 }
 
+// Whether node i, where it is undivided, has a list within these bounds that is not too long. Its box is not asked for: most nodes are undivided, and a box costs time.
+fn check_leaf(
+    nodes: &[u8],
+    links: &[u8],
+    points: &[u8],
+    i: usize,
+    low: Point2D,
+    top: Point2D,
+    edge: Point2D,
+    levels: u8,
+    capacity: u32,
+    homes: &mut [u8],
+) -> bool
+    ensures { λ r. ⌜ LeafChecks 4 capacity (pointAt 2 (words (now (points .entry)))) (words (now (nodes .entry))) (words (now (links .entry))) levels (bounding (place2 low) (place2 top) (place2 edge)) i (now (homes .entry)) (now (homes .exit)) r ⌝ }
+{
+    let n = count(nodes, i);
+    if (levels > 0) & (n > capacity) {
+        return false;
+    }
+    let head = first(nodes, i);
+    let tail = last(nodes, i);
+    check_list(links, points, head, tail, n, low, top, edge, homes)
+}
+
 // Whether the words hold a tree at node i, which is there, with this box and these bounds and so many levels below it; what it meets is marked.
 fn check_node(
     nodes: &[u8],
@@ -125,15 +137,21 @@ fn check_node(
     ensures { λ r. ⌜ Checks 4 capacity (pointAt 2 (words (now (points .entry)))) (words (now (nodes .entry))) (words (now (links .entry))) levels (sides2 bounds) (bounding (place2 low) (place2 top) (place2 edge)) i (now (homes .entry)) (now (used .entry)) (now (homes .exit)) (now (used .exit)) r ⌝ }
 {
     let g = group(nodes, i);
-    let n = count(nodes, i);
     if g == 0 {
-        if (levels > 0) & (n > capacity) {
-            return false;
-        }
-        let head = first(nodes, i);
-        let tail = last(nodes, i);
-        return check_list(links, points, head, tail, n, low, top, edge, homes);
+        return check_leaf(
+            nodes,
+            links,
+            points,
+            i,
+            low,
+            top,
+            edge,
+            levels,
+            capacity,
+            homes,
+        );
     }
+    let n = count(nodes, i);
     if levels == 0 {
         return false;
     }
@@ -147,9 +165,16 @@ fn check_node(
     let mut c: u8 = 0;
     while c < 4 {
         let j = child(4, g, c);
-        let part = bounds.child(c as usize);
         let l = low_part(bounds, low, c);
         let t = top_part(bounds, top, c);
+        if group(nodes, j) == 0 {
+            if !check_leaf(nodes, links, points, j, l, t, edge, below, capacity, homes) {
+                return false;
+            }
+            c += 1;
+            continue;
+        }
+        let part = bounds.child(c as usize);
         if !check_node(
             nodes,
             links,
@@ -175,21 +200,22 @@ fn check_node(
 pub fn sound(head: &[u8], nodes: &[u8], links: &[u8], points: &[u8]) -> bool
     ensures { λ r. ⌜ Decides r (Sane quadtree (pieces (now (head .entry)) (now (nodes .entry)) (now (links .entry)) (now (points .entry)))) ⌝ }
 {
-    if !fits(head, nodes, links, points) {
+    if !fits(2, 4, 85, head, nodes, links, points) {
         return false;
     }
     let b = boundary(head);
     if !accepts(b) {
         return false;
     }
-    let n = capacity(head);
+    let n = capacity(2, head);
     if n == 0 {
         return false;
     }
     let mut homes: [u8; 513] = [0; 513];
     let mut used: [u8; 86] = [0; 86];
     let low = Point2D { x: b.x, y: b.y };
-    let top = no_top();
+    let none = no_top();
+    let top = Point2D { x: none, y: none };
     let edge = Point2D {
         x: b.x + b.width,
         y: b.y + b.height,
@@ -210,11 +236,5 @@ pub fn sound(head: &[u8], nodes: &[u8], links: &[u8], points: &[u8]) -> bool
     ) {
         return false;
     }
-    if !free_places(links, &mut homes) {
-        return false;
-    }
-    if !free_groups(nodes, 4, &mut used) {
-        return false;
-    }
-    all_met(&homes) & all_met(&used)
+    rest_is_free(nodes, links, 4, &mut homes, &mut used)
 }

@@ -4,14 +4,14 @@ ghost use mathlib.Core.Path.{_≡_};
 ghost use mathlib.Core.Bool.{_&&_, cond};
 ghost use Prim.Native.Nat.{_*_, _<_, _≤_};
 ghost use lib.ListN.{length, getD};
-ghost use lib.Ieee.{le};
+ghost use lib.Ieee.{le, nan};
 ghost use Rattle.floats.specs.Values.{plusZero};
 ghost use Rattle.words.specs.Words.{words};
 ghost use Rattle.model.specs.Boxes.{bounded};
 ghost use Rattle.pool.specs.Writes.{kid};
 ghost use Rattle.trees.proofs.Areas.{higher, lower};
 ghost use Rattle.trees.proofs.Checks.{counts};
-ghost use Rattle.trees.proofs.Marks.{Claims, AllMet, Frees};
+ghost use Rattle.trees.proofs.Marks.{Claims, AllMet, Frees, Rest};
 use pool::child;
 use pool::count;
 use pool::group;
@@ -19,6 +19,8 @@ use pool::next;
 
 // 2^500, the largest magnitude in a boundary.
 const LIMIT: u64 = 0x5f30_0000_0000_0000;
+
+const NAN: u64 = 0x7ff8_0000_0000_0000;
 
 // Whether number p is met for the first time; it is then marked.
 pub fn claim(marks: &mut [u8], p: u32) -> bool
@@ -36,7 +38,7 @@ pub fn claim(marks: &mut [u8], p: u32) -> bool
 }
 
 // Whether every number but 0 was met.
-pub fn all_met(marks: &[u8]) -> bool
+fn all_met(marks: &[u8]) -> bool
     ensures { λ r. ⌜ AllMet (now (marks .entry)) r ⌝ }
 {
     let mut i = 1;
@@ -50,7 +52,7 @@ pub fn all_met(marks: &[u8]) -> bool
 }
 
 // Whether the free places form a list of places that were not met before; they are marked.
-pub fn free_places(links: &[u8], homes: &mut [u8]) -> bool
+fn free_places(links: &[u8], homes: &mut [u8]) -> bool
     ensures { λ r. ⌜ Frees (λ p. getD (words (now (links .entry))) p 0) (λ p. p < length (words (now (links .entry)))) (now (homes .entry)) (getD (words (now (links .entry))) 0 0) (now (homes .exit)) r ⌝ }
 {
     let mut left = homes.len();
@@ -69,7 +71,7 @@ pub fn free_places(links: &[u8], homes: &mut [u8]) -> bool
 }
 
 // Whether the free groups form a list of groups that were not met before; they are marked.
-pub fn free_groups(nodes: &[u8], ways: u8, used: &mut [u8]) -> bool
+fn free_groups(nodes: &[u8], ways: u8, used: &mut [u8]) -> bool
     ensures { λ r. ⌜ Frees (λ g. getD (words (now (nodes .entry))) (4 * kid ways g 0) 0) (λ g. 4 * kid ways g ways ≤ length (words (now (nodes .entry)))) (now (used .entry)) (getD (words (now (nodes .entry))) 0 0) (now (used .exit)) r ⌝ }
 {
     let mut left = used.len();
@@ -88,6 +90,19 @@ pub fn free_groups(nodes: &[u8], ways: u8, used: &mut [u8]) -> bool
     true
 }
 
+// Whether what was not met is free: every place and every group is met once with the lists of free ones.
+pub fn rest_is_free(nodes: &[u8], links: &[u8], ways: u8, homes: &mut [u8], used: &mut [u8]) -> bool
+    ensures { λ r. ⌜ Rest ways (words (now (nodes .entry))) (words (now (links .entry))) (now (homes .entry)) (now (used .entry)) r ⌝ }
+{
+    if !free_places(links, homes) {
+        return false;
+    }
+    if !free_groups(nodes, ways, used) {
+        return false;
+    }
+    all_met(homes) & all_met(used)
+}
+
 // The counts of all children of group k together.
 pub fn children_count(nodes: &[u8], ways: u8, k: u32) -> u64
     ensures { λ r. ⌜ r ≡ counts ways (words (now (nodes .entry))) k 0 ways ⌝ }
@@ -100,6 +115,13 @@ pub fn children_count(nodes: &[u8], ways: u8, k: u32) -> u64
         c += 1;
     }
     sum
+}
+
+// What bounds nothing from above.
+pub fn no_top() -> f64
+    ensures { λ r. ⌜ r ≡ nan ⌝ }
+{
+    floats::from_bits(NAN)
 }
 
 // The low bound of a half: on the high side the midplane, where it is higher.

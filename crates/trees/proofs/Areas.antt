@@ -3,7 +3,7 @@
 use mathlib.Core.Path.{_≡_, refl, ap, ap₂, sym, _∙_, subst}
 use mathlib.Core.Logic.{_≢_, inl, inr}
 use mathlib.Core.Bool.{Bool, true, false, not, _&&_, _||_, cond}
-use mathlib.Core.List.{List, [], _∷_}
+use mathlib.Core.List.{List, [], _∷_, map}
 use Prim.Native.Nat.{ℕ, zero, suc, _+_, _*_, _/_, _%_, _^_, _<_, _≤_}
 use native.Mathlib.Omega.{arith}
 use native.Mathlib.Nat.{pow-succ'}
@@ -351,15 +351,10 @@ pub tops-none : (ts : List Float) (i : ℕ) → [] ≡ tops [] ts i
 unfolding tops
 tops-none ts i = refl
 
-pub whole-more : (s : Side) (b : List Side) (l t e : Float) (ls ts es : List Float) → l ≡ s .corner → t ≡ nan → e ≡ far s → bounding ls ts es ≡ whole b → bounding (l ∷ ls) (t ∷ ts) (e ∷ es) ≡ whole (s ∷ b)
+pub whole-is : (b : List Side) (t : Float) → t ≡ nan → bounding (map (λ (s : Side). s .corner) b) (map (λ (s : Side). t) b) (map far b) ≡ whole b
 unfolding whole bounding
-whole-more s b l t e ls ts es el et ee w =
-    ap (λ (u : Float). record { low = u; top = t; edge = e } ∷ bounding ls ts es) el ∙ ap (λ (u : Float). record { low = s .corner; top = u; edge = e } ∷ bounding ls ts es) et
-    ∙ ap (λ (u : Float). record { low = s .corner; top = nan; edge = u } ∷ bounding ls ts es) ee ∙ ap (λ (a : List Bound). record { low = s .corner; top = nan; edge = far s } ∷ a) w
-
-pub whole-none : bounding [] [] [] ≡ whole []
-unfolding whole bounding
-whole-none = refl
+whole-is [] t e = refl
+whole-is (s ∷ b) t e = ap₂ (λ (u : Float) (v : List Bound). record { low = s .corner; top = u; edge = far s } ∷ v) e (whole-is b t e)
 
 pub lies-more : (l t e v : Float) (ls ts es vs : List Float) (x y : Bool) → x ≡ (le l v && le v e) && not (le t v) → y ≡ lies (bounding ls ts es) vs → x && y ≡ lies (bounding (l ∷ ls) (t ∷ ts) (e ∷ es)) (v ∷ vs)
 unfolding lies bounding onEach keeps

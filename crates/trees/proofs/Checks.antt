@@ -410,16 +410,25 @@ module _ (ways cap : ℕ) (pt : ℕ → Point) (n x : List ℕ) where
   pub check-taken : (d : ℕ) (b : List Side) (a : List Bound) (i : ℕ) (m u u1 m' u' : List ℕ) (g v : ℕ) (t : Bool) → 0 < ways → g ≡ getD n (4 * i) 0 → v ≡ getD n (4 * i + 3) 0 → g ≢ 0 → Claims u u1 g t → not t ≡ true → Checks d b a i m u m' u' false
   check-taken d b a i m u u1 m' u' g v t lw eg ev nz c e = check-met d b a i m u u1 m' u' g v lw eg ev nz (subst (λ (k : Bool). Claims u u1 g k) (not-true t e) c)
 
-  -- ---- as the code tests an undivided node
-  pub check-over : (d : ℕ) (b : List Side) (a : List Bound) (i : ℕ) (m u m' u' : List ℕ) (g v : ℕ) → g ≡ getD n (4 * i) 0 → v ≡ getD n (4 * i + 3) 0 → g ≡ 0 → ltb 0 d && ltb cap v ≡ true → Checks d b a i m u m' u' false
-  check-over d b a i m u m' u' g v eg ev z t =
-      let e = both (ltb 0 d) (ltb cap v) t in
-      check-many d b a i m u m' u' g v eg ev z (λ k. absurd (omega (arith, k, ltb-true 0 d (e .0)))) (ltb-true cap v (e .1))
+  -- ---- an undivided node as the code tests it: its box is not looked at, and no group is marked
+  unfoldable pub LeafChecks : (d : ℕ) → List Bound → ℕ → (m m' : List ℕ) → Bool → Type 0
+  LeafChecks d a i m m' r = (b : List Side) (u : List ℕ) → getD n (4 * i) 0 ≡ 0 → Checks d b a i m u m' u r
 
-  pub check-places : (d : ℕ) (b : List Side) (a : List Bound) (i : ℕ) (m u m' : List ℕ) (r : Bool) (g v h last : ℕ) → g ≡ getD n (4 * i) 0 → v ≡ getD n (4 * i + 3) 0 → g ≡ 0 → ltb 0 d && ltb cap v ≡ false → h ≡ getD n (4 * i + 1) 0 → last ≡ getD n (4 * i + 2) 0
-      → ListChecks pt x a h last v m m' r → Checks d b a i m u m' u r
-  check-places d b a i m u m' r g v h last eg ev z t eh el w = check-list d b a i m u m' r g v h last eg ev z (few (ltb 0 d) (ltb cap v) t (ltb-false 0 d) (ltb-false cap v)) eh el w
+  pub leaf-over : (d : ℕ) (a : List Bound) (i : ℕ) (m m' : List ℕ) (v : ℕ) → v ≡ getD n (4 * i + 3) 0 → ltb 0 d && ltb cap v ≡ true → LeafChecks d a i m m' false
+  unfolding LeafChecks
+  leaf-over d a i m m' v ev t b u z =
+      let e = both (ltb 0 d) (ltb cap v) t in
+      check-many d b a i m u m' u (getD n (4 * i) 0) v refl ev z (λ k. absurd (omega (arith, k, ltb-true 0 d (e .0)))) (ltb-true cap v (e .1))
+
+  pub leaf-places : (d : ℕ) (a : List Bound) (i : ℕ) (m m' : List ℕ) (r : Bool) (v h last : ℕ) → v ≡ getD n (4 * i + 3) 0 → ltb 0 d && ltb cap v ≡ false → h ≡ getD n (4 * i + 1) 0 → last ≡ getD n (4 * i + 2) 0
+      → ListChecks pt x a h last v m m' r → LeafChecks d a i m m' r
+  unfolding LeafChecks
+  leaf-places d a i m m' r v h last ev t eh el w b u z = check-list d b a i m u m' r (getD n (4 * i) 0) v h last refl ev z (few (ltb 0 d) (ltb cap v) t (ltb-false 0 d) (ltb-false cap v)) eh el w
     where
       few : (s t : Bool) → s && t ≡ false → (s ≡ false → d ≤ 0) → (t ≡ false → v ≤ cap) → ((d ≡ 0) ⊎ (v ≤ cap))
       few true t e f g = inr (g e)
       few false t e f g = inl (omega (arith, f refl))
+
+  pub leaf-checked : (d : ℕ) (b : List Side) (a : List Bound) (i : ℕ) (m u m' : List ℕ) (r : Bool) (g : ℕ) → g ≡ getD n (4 * i) 0 → g ≡ 0 → LeafChecks d a i m m' r → Checks d b a i m u m' u r
+  unfolding LeafChecks
+  leaf-checked d b a i m u m' r g eg z w = w b u (sym eg ∙ z)

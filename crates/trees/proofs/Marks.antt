@@ -1,15 +1,16 @@
 -- Numbers that are met, each once at most: marks in a list of bytes, and lists of places or groups that are walked and marked. Assumes nothing.
-use mathlib.Core.Path.{_≡_, refl, ap, sym, _∙_, subst}
+use mathlib.Core.Path.{_≡_, refl, ap, ap₂, sym, _∙_, subst}
 use mathlib.Core.Logic.{_≢_}
-use mathlib.Core.Bool.{Bool, true, false, not}
+use mathlib.Core.Bool.{Bool, true, false, not, _&&_}
 use mathlib.Core.List.{List, [], _∷_}
-use Prim.Native.Nat.{ℕ, zero, suc, _+_, _-_, _<_, _≤_}
+use Prim.Native.Nat.{ℕ, zero, suc, _+_, _-_, _*_, _<_, _≤_}
 use native.Mathlib.Omega.{arith}
 use lib.Dec.{T}
-use borrow.Author.Tests.{not-true}
+use borrow.Author.Tests.{not-true, not-false}
 use lib.ListN.{length, getD, set, length-set}
 use lib.Seq.{getD-set-same, getD-set-other}
 use Rattle.pool.specs.Lists.{is, occ, lastOr}
+use Rattle.pool.specs.Writes.{kid}
 use Rattle.pool.proofs.Lists.{by-eq, is-same, is-other, is-eq}
 
 -- each number at most once so far
@@ -196,3 +197,36 @@ module _ (next : ℕ → ℕ) (ok : ℕ → Type 0) where
     pub freeing-end : q ≡ 0 → Frees m h now true
     unfolding Frees
     freeing-end z f = g .on f now true (λ b. walks-end next ok always now q b left true z refl)
+
+-- ---- what was not met is free: the free places and the free groups, each in its list, and then nothing is left
+module _ (ways : ℕ) (n x : List ℕ) where
+  abbrev pub FreedPlaces : (m m' : List ℕ) → Bool → Type 0
+  FreedPlaces m m' y = Frees (λ p. getD x p 0) (λ p. p < length x) m (getD x 0 0) m' y
+
+  abbrev pub FreedGroups : (u u' : List ℕ) → Bool → Type 0
+  FreedGroups u u' o = Frees (λ g. getD n (4 * kid ways g 0) 0) (λ g. 4 * kid ways g ways ≤ length n) u (getD n 0 0) u' o
+
+  -- the answers of the tests one after the other: a test is made where those before it said yes
+  pub record Rest (m u : List ℕ) (r : Bool) : Type 0 where
+    pub m' : List ℕ
+    pub u' : List ℕ
+    pub y : Bool
+    pub o : Bool
+    pub d : Bool
+    pub e : Bool
+    pub places : FreedPlaces m m' y
+    pub groups : y ≡ true → FreedGroups u u' o
+    pub met-places : o ≡ true → AllMet m' d
+    pub met-groups : o ≡ true → AllMet u' e
+    pub answer : r ≡ y && (o && (d && e))
+
+  pub rest-places : (m u m' : List ℕ) (y : Bool) → FreedPlaces m m' y → not y ≡ true → Rest m u false
+  rest-places m u m' y f e = record { m' = m'; u' = u; y = y; o = false; d = false; e = false; places = f; groups = λ t. no-true (sym (not-true y e) ∙ t); met-places = λ t. no-true t; met-groups = λ t. no-true t; answer = ap (λ (b : Bool). b && false) (sym (not-true y e)) }
+
+  pub rest-groups : (m u m' u' : List ℕ) (y o : Bool) → FreedPlaces m m' y → not y ≡ false → FreedGroups u u' o → not o ≡ true → Rest m u false
+  rest-groups m u m' u' y o f ey g eo =
+      let z : o ≡ false = not-true o eo in
+      record { m' = m'; u' = u'; y = y; o = o; d = false; e = false; places = f; groups = λ t. g; met-places = λ t. no-true (sym z ∙ t); met-groups = λ t. no-true (sym z ∙ t); answer = ap₂ (λ (b c : Bool). b && (c && false)) (sym (not-false y ey)) (sym z) }
+
+  pub rest-all : (m u m' u' : List ℕ) (y o d e : Bool) → FreedPlaces m m' y → not y ≡ false → FreedGroups u u' o → not o ≡ false → AllMet m' d → AllMet u' e → Rest m u (d && e)
+  rest-all m u m' u' y o d e f ey g eo ad ae = record { m' = m'; u' = u'; y = y; o = o; d = d; e = e; places = f; groups = λ t. g; met-places = λ t. ad; met-groups = λ t. ae; answer = ap₂ (λ (b c : Bool). b && (c && (d && e))) (sym (not-false y ey)) (sym (not-false o eo)) }

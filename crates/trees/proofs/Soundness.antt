@@ -34,9 +34,9 @@ use Rattle.pool.proofs.Trees.{Full}
 use Rattle.trees.specs.Points.{floats, pointAt}
 use Rattle.trees.specs.Pieces.{Pieces, Fits, boundaryOf, capacityOf, planOf, Holds, Sane, Decides}
 use Rattle.trees.proofs.Areas.{Bound, F64Bound, lies, narrowed, whole, narrowed-lies, narrowed-held, narrowed-length, whole-lies, whole-held, whole-length}
-use Rattle.trees.proofs.Heads.{both}
+use Rattle.trees.proofs.Heads.{both, Measured, measured-as}
 use Rattle.trees.proofs.Checks.{Tested, Proper, Found, Checked, Checks, Sized}
-use Rattle.trees.proofs.Marks.{Low, Marked, Fresh, Linked, Listed, Walks, AllMet, always, Frees}
+use Rattle.trees.proofs.Marks.{Low, Marked, Fresh, Linked, Listed, Walks, AllMet, always, Frees, FreedPlaces, FreedGroups, Rest}
 
 -- ---- every point of a tree with place numbers
 module _ (P : ℕ → Type 0) where
@@ -466,8 +466,11 @@ module _ (k : Kind) (s : Pieces) (rows : ℕ) (er : k .most ≡ suc (ways k * ro
   yes-no : {C : Type 0} {t : Bool} → t ≡ true → t ≡ false → C
   yes-no e h = absurd (subst T (sym e ∙ h) tt)
 
-  pub sound-lengths : (r : Bool) → Decides r (Fits k s) → r ≡ false → Decides false (Sane k s)
-  sound-lengths r d e = not-sane (λ q. yes-no (d .only (q .fits)) e)
+  pub sound-lengths : (r : Bool) → Measured (k .axes) (ways k) rows s r → not r ≡ true → Decides false (Sane k s)
+  sound-lengths r m e = not-sane (λ q. yes-no (measured-as k rows s r er m .only (q .fits)) (not-true r e))
+
+  pub sound-fits : (r : Bool) → Measured (k .axes) (ways k) rows s r → not r ≡ false → Fits k s
+  sound-fits r m e = measured-as k rows s r er m .sure (not-false r e)
 
   pub sound-boundary : (b : List Side) → b ≡ bounds → acceptable b ≡ false → Decides false (Sane k s)
   sound-boundary b eb e0 = let e : acceptable bounds ≡ false = sym (ap acceptable eb) ∙ e0 in not-sane (λ q. yes-no (yes-of {t = acceptable bounds} (subst (λ (a : Plan). T (acceptable (a .boundary))) (q .holds .plan) (q .holds .sound .boundary .0))) e)
@@ -506,7 +509,7 @@ module _ (k : Kind) (s : Pieces) (rows : ℕ) (er : k .most ≡ suc (ways k * ro
           long : length m1 ≡ 513
           long = root .places .long ∙ begun .long-m
 
-      pub sound-places : not y ≡ true → Decides false (Sane k s)
+      sound-places : not y ≡ true → Decides false (Sane k s)
       sound-places e = not-sane (λ q. yes-no (places-pass fit (q .plan) (q .holds) (unmet 513) (unmet (suc rows)) m1 u1 begun root m2 y places) (not-true y e))
 
       module _ (ey : not y ≡ false) (u2 : List ℕ) (o : Bool) (f : Frees (λ g. getD n (4 * kid (ways k) g 0) 0) (λ g. 4 * kid (ways k) g (ways k) ≤ length n) u1 (getD n 0 0) u2 o) where
@@ -517,10 +520,10 @@ module _ (k : Kind) (s : Pieces) (rows : ℕ) (er : k .most ≡ suc (ways k * ro
             long : length u1 ≡ suc rows
             long = root .groups .long ∙ begun .long-u
 
-        pub sound-groups : not o ≡ true → Decides false (Sane k s)
+        sound-groups : not o ≡ true → Decides false (Sane k s)
         sound-groups e = not-sane (λ q. yes-no (groups-pass fit (q .plan) (q .holds) (unmet 513) (unmet (suc rows)) m1 u1 begun root u2 o groups) (not-true o e))
 
-        pub sound-all : (d e : Bool) → acceptable b ≡ true → c ≢ 0 → not o ≡ false → AllMet m2 d → AllMet u2 e → Decides (d && e) (Sane k s)
+        sound-all : (d e : Bool) → acceptable b ≡ true → c ≢ 0 → not o ≡ false → AllMet m2 d → AllMet u2 e → Decides (d && e) (Sane k s)
         sound-all d e ok one eo md me =
             let lp = places .sure (not-false y ey) (root .places .low) in
             let lg = groups .sure (not-false o eo) (root .groups .low) in
@@ -528,3 +531,12 @@ module _ (k : Kind) (s : Pieces) (rows : ℕ) (er : k .most ≡ suc (ways k * ro
               sure = λ h. let z = both d e h in record { fits = fit; plan = planOf k s (root .tree); holds = holds fit (unmet 513) (unmet (suc rows)) m1 u1 m2 u2 begun root lp lg (subst T (sym (sym (ap acceptable eb) ∙ ok)) tt) (omega (arith, pos c one, ec)) (md .sure (z .0)) (me .sure (z .1)) };
               only = λ q. ap₂ (λ (g h : Bool). g && h) (all-places fit (q .plan) (q .holds) (unmet 513) (unmet (suc rows)) m1 u1 begun root m2 d lp md) (all-groups fit (q .plan) (q .holds) (unmet 513) (unmet (suc rows)) m1 u1 begun root u2 e lg me);
             }
+
+    -- the tests after the tree's, together
+    pub sound-rest : not t ≡ false → (r : Bool) → Rest (ways k) n x m1 u1 r → acceptable b ≡ true → c ≢ 0 → Decides r (Sane k s)
+    sound-rest et r l ok one = by (l .y) (l .o) (l .places) (l .groups) (l .met-places) (l .met-groups) (l .answer)
+      where
+        by : (y o : Bool) → FreedPlaces (ways k) n x m1 (l .m') y → (y ≡ true → FreedGroups (ways k) n x u1 (l .u') o) → (o ≡ true → AllMet (l .m') (l .d)) → (o ≡ true → AllMet (l .u') (l .e)) → r ≡ y && (o && (l .d && l .e)) → Decides r (Sane k s)
+        by false o f g p q a = subst (λ (v : Bool). Decides v (Sane k s)) (sym a) (sound-places et (l .m') false f refl)
+        by true false f g p q a = subst (λ (v : Bool). Decides v (Sane k s)) (sym a) (sound-groups et (l .m') true f refl (l .u') false (g refl) refl)
+        by true true f g p q a = subst (λ (v : Bool). Decides v (Sane k s)) (sym a) (sound-all et (l .m') true f refl (l .u') true (g refl) (l .d) (l .e) ok one refl (p refl) (q refl))

@@ -15,7 +15,7 @@ is-empty-requires : tie.Need-is-empty-requires
 is-empty-requires c κs = search needs
 
 returns-2 : tie.Need-returns-2
-returns-2 c = asks-held quadtree (pieces (c .before .before .before .before .before .before .before .args .head .now) (c .before .before .before .before .before .before .before .args .nodes .now) (c .before .before .before .before .before .before .before .args .links .now) (c .before .before .before .before .before .before .before .args .points .now)) _ (c .before .before .sound .ensures) (c .before .if1 .left) _ _ _ (c .is-empty .ensures (c .before .before .before .before .before .before .before .args .head .now) (c .before .before .before .before .before .before .before .args .links .now) (c .before .before .before .before .before .before .before .args .points .now))
+returns-2 c = asks-held quadtree (pieces (c .before .before .before .before .before .before .before .args .head .now) (c .before .before .before .before .before .before .before .args .nodes .now) (c .before .before .before .before .before .before .before .args .links .now) (c .before .before .before .before .before .before .before .args .points .now)) _ (c .before .before .sound .ensures) (c .before .if1 .left) _ _ _ (c .is-empty .ensures quadtree (c .before .before .before .before .before .before .before .args .head .now) (c .before .before .before .before .before .before .before .args .links .now) (c .before .before .before .before .before .before .before .args .points .now))
 
 pub quadtree-is-empty-spec : {M : Type 1} → statement M
 quadtree-is-empty-spec = tie.close (tie.spec sound-requires returns is-empty-requires returns-2)

@@ -44,18 +44,4 @@ returns : tie.Need-returns
 returns c = ordered-all (sides2 (c .before .before .before .before .before .before .before .before .before .before .before .before .before .args .bounds)) (place2 (c .before .before .before .before .before .before .before .before .before .before .before .before .before .args .target)) 4 _ (replicate 4 0) _ _ (omega arith) (nears-more _ _ _ 0 3 _ _ (c .before .before .before .before .before .before .before .before .before .before .before .min-distance-sq .ensures) (c .before .before .before .before .before .before .before .before .before .before .before .before .child .ensures) (nears-more _ _ _ 1 2 _ _ (c .before .before .before .before .before .before .before .before .before .min-distance-sq2 .ensures) (c .before .before .before .before .before .before .before .before .before .before .child2 .ensures) (nears-more _ _ _ 2 1 _ _ (c .before .before .before .before .before .before .before .min-distance-sq3 .ensures) (c .before .before .before .before .before .before .before .before .child3 .ensures) (nears-more _ _ _ 3 0 _ _ (c .before .before .before .before .before .min-distance-sq4 .ensures) (c .before .before .before .before .before .before .child4 .ensures) (nears-none _ _ 4))))) refl (c .before .before .order-children .ensures)
 
 pub by-distance-spec : {M : Type 1} → statement M
-by-distance-spec =
-    tie.close
-    (tie.spec
-    child-requires
-    min-distance-sq-requires
-    child-requires-2
-    min-distance-sq-requires-2
-    child-requires-3
-    min-distance-sq-requires-3
-    child-requires-4
-    min-distance-sq-requires-4
-    slice-aggregate-order-children
-    slice-aggregate-order-children-2
-    order-children-requires
-    returns)
+by-distance-spec = tie.close (tie.spec child-requires min-distance-sq-requires child-requires-2 min-distance-sq-requires-2 child-requires-3 min-distance-sq-requires-3 child-requires-4 min-distance-sq-requires-4 slice-aggregate-order-children slice-aggregate-order-children-2 order-children-requires returns)

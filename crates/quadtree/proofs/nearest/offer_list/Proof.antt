@@ -63,22 +63,4 @@ returns-2 : tie.Need-returns-2 Inv-loop μ-loop
 returns-2 c = offering-end _ _ _ _ _ _ _ _ _ _ _ _ _ _ (c .before .loop .inv) (omega (arith, c .loop-test .left)) (length-words (c .before .before .before .before .before .before .args .links .now))
 
 pub offer-list-spec : {M : Type 1} → statement M
-offer-list-spec =
-    tie.close
-    (tie.spec
-    Inv-loop
-    μ-loop
-    loop-holds
-    same-length
-    same-length-2
-    returns
-    point-at-requires
-    distance-sq-requires
-    offer-requires
-    next-requires
-    sub-left
-    loop-less
-    loop-again
-    same-length-3
-    same-length-4
-    returns-2)
+offer-list-spec = tie.close (tie.spec Inv-loop μ-loop loop-holds same-length same-length-2 returns point-at-requires distance-sq-requires offer-requires next-requires sub-left loop-less loop-again same-length-3 same-length-4 returns-2)

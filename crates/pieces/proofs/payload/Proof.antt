@@ -1,9 +1,9 @@
--- `answers::payload` meets its contract. Assumes nothing.
-use Rattle.answers.proofs.Writes.{payload-at}
+-- `pieces::payload` meets its contract. Assumes nothing.
+use Rattle.trees.proofs.Heads.{payload-at}
 use Rattle.words.specs.Words.{words}
 use borrow.Author.Needs.{needs}
-use Rattle.answers.proofs.payload.Statement.{statement}
-use Rattle.answers.proofs.payload.Tie as tie
+use Rattle.pieces.proofs.payload.Statement.{statement}
+use Rattle.pieces.proofs.payload.Tie as tie
 
 base-requires : tie.Need-base-requires
 base-requires c κs = search needs

@@ -1,10 +1,10 @@
--- `answers::base` meets its contract. Assumes nothing.
+-- `pieces::base` meets its contract. Assumes nothing.
 use Rattle.pool.proofs.Steps.{product-small}
 use native.Mathlib.Omega.{arith}
-use Rattle.answers.proofs.Writes.{base-is}
+use Rattle.trees.proofs.Heads.{base-is}
 use borrow.Author.Needs.{needs}
-use Rattle.answers.proofs.base.Statement.{statement}
-use Rattle.answers.proofs.base.Tie as tie
+use Rattle.pieces.proofs.base.Statement.{statement}
+use Rattle.pieces.proofs.base.Tie as tie
 
 mul-result : tie.Need-mul-result
 mul-result c = omega (arith, product-small (c .args .axes) (c .args .p) (omega arith) (omega arith))

@@ -1,0 +1,4 @@
+// The octree: octree.rs, over places in lent pieces.
+pub mod head;
+pub mod nearest;
+pub mod place;
