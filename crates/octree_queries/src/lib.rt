@@ -1,0 +1,2 @@
+// The octree's queries, on pieces that hold a sound tree.
+pub mod search;
