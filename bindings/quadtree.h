@@ -1,27 +1,15 @@
-/* A quadtree over points in the plane, in memory that the caller lends. Link libhost.a.
- *
- * A tree lies in four pieces of bytes that the caller owns and moves as it likes:
+/* A quadtree over points in the plane, in memory that the caller lends. Link libhost.a. trees.h says how slices
+ * are lent, what holds for every call, and what the reply numbers mean.
  *
  *     head     40 bytes   the boundary and the capacity
- *     nodes  5504 bytes   the nodes and the free ones
+ *     nodes  5504 bytes   the nodes and the free ones, 341 at most
  *     links  2052 bytes   the order of the points and the free places
  *     points 12312 bytes  coordinates and payloads
- *
- * Every slice is a pointer and its length in bytes. A slice may stand at any address, also an odd one; no pointer
- * is null, not even with length 0. Slices of one call must not overlap. A pointer to a number is aligned as its type
- * asks and points into none of the slices. Numbers in slices stand low byte first.
- *
- * Every function takes any bytes and any numbers, and always ends. It tests first whether the pieces hold a
- * sound tree and answers QUADTREE_UNSOUND where they do not (quadtree_create asks only for their lengths). A
- * refused call changes no byte of any slice, but for quadtree_insert_bulk, which keeps what it stored. Where a
- * count or a yes or no is handed over by a pointer, a refused call sets it to 0; a bulk that stops at 5 or 6 sets it
- * to how many it stored. Replies are listed with 0 first, then refusals in the order in which they are tested.
  */
 #ifndef QUADTREE_H
 #define QUADTREE_H
 
-#include <stddef.h>
-#include <stdint.h>
+#include "trees.h"
 
 #ifdef __cplusplus
 extern "C" {
@@ -30,24 +18,24 @@ extern "C" {
 /* Lengths of the pieces, and the most points that a tree holds. */
 #define QUADTREE_HEAD_BYTES 40
 #define QUADTREE_NODES_BYTES 5504
-#define QUADTREE_LINKS_BYTES 2052
+#define QUADTREE_LINKS_BYTES RALIKUDO_LINKS_BYTES
 #define QUADTREE_POINTS_BYTES 12312
-#define QUADTREE_MOST_POINTS 512
+#define QUADTREE_MOST_POINTS RALIKUDO_MOST_POINTS
 
 /* Bytes that a point takes in a slice of coordinates (x, then y) and in one of payloads. */
 #define QUADTREE_COORDS_BYTES 16
-#define QUADTREE_PAYLOAD_BYTES 4
+#define QUADTREE_PAYLOAD_BYTES RALIKUDO_PAYLOAD_BYTES
 
-/* Reply numbers. */
-#define QUADTREE_DONE 0
-#define QUADTREE_OUTSIDE 1      /* the point is outside the boundary; any NaN is outside */
-#define QUADTREE_NOT_HELD 2     /* no equal point is held */
-#define QUADTREE_NO_CAPACITY 3  /* the capacity is 0 */
-#define QUADTREE_BAD_BOUNDARY 4 /* a number is not finite or above 2^500 in magnitude, or an extent is negative */
-#define QUADTREE_POINTS_FULL 5  /* 512 points are held already */
-#define QUADTREE_NODES_FULL 6   /* storing the point would take more than 341 nodes */
-#define QUADTREE_NO_ROOM 7      /* there are more answers than the lent slices hold */
-#define QUADTREE_UNSOUND 8      /* the pieces hold no sound tree, or one of them has a wrong length */
+/* The reply numbers by the quadtree's own names. */
+#define QUADTREE_DONE RALIKUDO_DONE
+#define QUADTREE_OUTSIDE RALIKUDO_OUTSIDE
+#define QUADTREE_NOT_HELD RALIKUDO_NOT_HELD
+#define QUADTREE_NO_CAPACITY RALIKUDO_NO_CAPACITY
+#define QUADTREE_BAD_BOUNDARY RALIKUDO_BAD_BOUNDARY
+#define QUADTREE_POINTS_FULL RALIKUDO_POINTS_FULL
+#define QUADTREE_NODES_FULL RALIKUDO_NODES_FULL
+#define QUADTREE_NO_ROOM RALIKUDO_NO_ROOM
+#define QUADTREE_UNSOUND RALIKUDO_UNSOUND
 
 /* Makes an empty tree in the pieces, whatever they hold. Points inside have x to x + width and y to y + height,
  * both ends counted. A node with more than `capacity` points is divided in four, down to depth 32.

@@ -34,7 +34,7 @@ impl Side {
 }
 
 pub struct Benchmark {
-    pub what: &'static str,
+    pub what: String,
     pub size: usize,
     pub input: &'static str,
     pub runs: usize,

@@ -52,7 +52,7 @@ pub fn all() -> Vec<Benchmark> {
     let benchmark = |(k, input): (usize, &'static str)| {
         let (mine, theirs) = (lists(input), lists(input));
         Benchmark {
-            what: "512 offers to a table of k",
+            what: "512 offers to a table of k".into(),
             size: k,
             input,
             runs: RUNS,

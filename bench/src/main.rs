@@ -5,9 +5,9 @@
 mod benchmark;
 mod knn;
 mod measure;
-#[cfg(feature = "quadtree")]
-mod quadtree;
 mod table;
+#[cfg(feature = "quadtree")]
+mod trees;
 
 use benchmark::Benchmark;
 use std::process::ExitCode;
@@ -16,7 +16,7 @@ use std::process::ExitCode;
 fn all() -> Vec<Benchmark> {
     let all = knn::all().into_iter();
     #[cfg(feature = "quadtree")]
-    let all = all.chain(quadtree::all());
+    let all = all.chain(trees::all());
     all.collect()
 }
 

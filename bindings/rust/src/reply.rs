@@ -11,7 +11,7 @@ pub struct Reply {
     pub figure: u32,
 }
 
-/// Why a call was refused; the numbers are those of quadtree.h.
+/// Why a call was refused; the numbers are those of trees.h.
 #[derive(Clone, Copy, Debug, PartialEq, Eq)]
 pub enum Refusal {
     /// The point is outside the boundary; any NaN is outside.
@@ -24,7 +24,7 @@ pub enum Refusal {
     BadBoundary = 4,
     /// 512 points are held already.
     PointsFull = 5,
-    /// Storing the point would take more than 341 nodes.
+    /// Storing the point would take more nodes than 341 in a quadtree, 321 in an octree.
     NodesFull = 6,
     /// There are more answers than the lent slices hold.
     NoRoom = 7,

@@ -1,5 +1,5 @@
 -- The extent that `span` gives between two edges reaches the far one, and one step is enough. Assumes nothing.
-use mathlib.Core.Path.{_≡_, refl, sym, _∙_, subst}
+use mathlib.Core.Path.{_≡_, refl, ap, sym, _∙_, subst}
 use mathlib.Core.Logic.{_⊎_, inl, inr}
 use Prim.Native.Nat.{ℕ, zero, suc, _+_, _-_, _*_, _^_, _≤_, _<_, zero-le}
 use native.Mathlib.Nat.{le-trans, le-of-eq, le-of-lt, lt-of-lt-of-le, lt-of-le-of-lt, lt-irrefl}
@@ -99,6 +99,16 @@ lengthened-stop f (suc n) lo hi len e = rw (e, lengthened)
 pub lengthened-none : (f : Format) (lo hi len : Float) → lengthened f 0 lo hi len ≡ len
 unfolding lengthened
 lengthened-none f lo hi len = refl
+
+-- a length that reaches is not short, whatever it is
+pub reaches-enough : (f : Format) (lo hi len : Float) → lt (add f lo len) hi ≡ false → short f lo hi len ≡ false
+unfolding short
+reaches-enough f lo hi len e = ap (λ (b : Bool). lt plusZero len && (finite len && b)) e ∙ never (lt plusZero len) (finite len)
+  where
+    never : (a b : Bool) → (a && (b && false)) ≡ false
+    never true true = refl
+    never true false = refl
+    never false b = refl
 
 pub span-is : (f : Format) (lo hi : Float) → span f lo hi ≡ lengthened f 4 lo hi (sub f hi lo)
 unfolding span

@@ -2,7 +2,7 @@
 ghost use mathlib.Core.Path.{_≡_};
 ghost use Prim.Native.Nat.{_≤_};
 ghost use lib.Ieee.{binary64};
-ghost use Rattle.floats.specs.Span.{span, short};
+ghost use Rattle.floats.specs.Span.{lengthened, span, short};
 ghost use Rattle.model.specs.Boxes.{holds, touches, mid, turn, half, axisDistance};
 ghost use Rattle.geometry.specs.Sides.{side};
 
@@ -15,11 +15,11 @@ fn is_short(lo: f64, hi: f64, len: f64) -> bool
     (len > 0.0) & ((len < f64::from_bits(INFINITY)) & (lo + len < hi))
 }
 
-// The extent from lo to hi. The difference can round down, and then lo + (hi − lo) can fall short of hi; the next number up reaches it.
-pub fn span(lo: f64, hi: f64) -> f64
-    ensures { λ r. ⌜ r ≡ span binary64 lo hi ⌝ }
+// A length with at most four steps up, while it is short.
+fn lengthen(lo: f64, hi: f64, start: f64) -> f64
+    ensures { λ r. ⌜ r ≡ lengthened binary64 4 lo hi start ⌝ }
 {
-    let mut len = hi - lo;
+    let mut len = start;
     let mut left: u32 = 4;
     while left > 0 {
         if !is_short(lo, hi, len) {
@@ -29,6 +29,19 @@ pub fn span(lo: f64, hi: f64) -> f64
         left -= 1;
     }
     len
+}
+
+// The extent from lo to hi. The difference can round down, and then lo + (hi − lo) can fall short of hi; the next number up reaches it.
+// Nearly every difference reaches, so that this is asked alone first.
+pub fn span(lo: f64, hi: f64) -> f64
+    ensures { λ r. ⌜ r ≡ span binary64 lo hi ⌝ }
+{
+    let len = hi - lo;
+    let far = lo + len;
+    if !(far < hi) {
+        return len;
+    }
+    lengthen(lo, hi, len)
 }
 
 // Whether v lies on the side.

@@ -9,48 +9,63 @@ ghost use Rattle.model.specs.Trees.{same};
 ghost use Rattle.pool.specs.Read.{chain};
 ghost use Rattle.trees.proofs.Descents.{reach, together, Needs};
 ghost use Rattle.trees.proofs.Finds.{seek};
+ghost use Rattle.trees.proofs.Walks.{Notes};
+ghost use Rattle.trees.proofs.Ways.{way};
 use crate::place::payload;
 use crate::place::point_at;
 use geometry::plane::Point2D;
 use geometry::plane::Rectangle;
+use paths::note_node;
 use pool::child;
 use pool::count;
 use pool::first;
 use pool::group;
 use pool::next;
 
-// A node with its box and the levels below it.
+// A node with its box, the levels below it, and how many nodes were noted on the way to it.
 pub struct Leaf {
     pub node: usize,
     pub bounds: Rectangle,
     pub levels: u8,
+    pub depth: usize,
 }
 
-// The undivided node that a point goes to. A point inside the boundary is inside every box on its way, so no box is asked.
-pub fn leaf_of(nodes: &[u8], i: usize, bounds: Rectangle, levels: u8, point: Point2D) -> Leaf
-    ensures { λ r. ⌜ record { node = r .node; box = sides2 (r .bounds); levels = r .levels } ≡ reach 4 (words (now (nodes .entry))) (place2 point) levels (sides2 bounds) i ⌝ }
+// The undivided node that a point goes to; the nodes on the way are noted. A point inside the boundary is inside every box on its way, so no box is asked.
+pub fn leaf_of(
+    nodes: &[u8],
+    i: usize,
+    bounds: Rectangle,
+    levels: u8,
+    point: Point2D,
+    path: &mut [usize],
+) -> Leaf
+    ensures { λ r. ⌜ (record { node = r .node; box = sides2 (r .bounds); levels = r .levels } ≡ reach 4 (words (now (nodes .entry))) (place2 point) levels (sides2 bounds) i) × Notes (way 4 (words (now (nodes .entry))) (place2 point) levels (sides2 bounds) i) (now (path .entry)) 0 (now (path .exit)) (r .depth) ⌝ }
 {
-    let mut at = i;
+    let mut node = i;
     let mut b = bounds;
     let mut left = levels;
+    let mut depth = 0;
     while left > 0 {
-        let k = group(nodes, at);
+        let k = group(nodes, node);
         if k == 0 {
             return Leaf {
-                node: at,
+                node,
                 bounds: b,
                 levels: left,
+                depth,
             };
         }
+        depth = note_node(path, depth, node);
         let c = (b.child_index(point) % 4) as u8;
-        at = child(4, k, c);
+        node = child(4, k, c);
         b = b.child(c as usize);
         left -= 1;
     }
     Leaf {
-        node: at,
+        node,
         bounds: b,
         levels: left,
+        depth,
     }
 }
 
@@ -60,12 +75,15 @@ pub struct Spot {
     pub before: u32,
 }
 
+// The payload is asked first: it is one word, and most faults differ in it.
 fn same_at(points: &[u8], p: u32, point: Point2D, mark: u32) -> bool
     ensures { λ r. ⌜ r ≡ same (record { at = place2 point; payload = mark }) (pointAt 2 (words (now (points .entry))) p) ⌝ }
 {
+    if payload(points, p) != mark {
+        return false;
+    }
     let held = point_at(points, p);
-    let d = payload(points, p);
-    point.same(held) & (mark == d)
+    point.same(held)
 }
 
 // The first place of a list whose point is equal.

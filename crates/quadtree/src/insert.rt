@@ -1,6 +1,5 @@
 // Insertion: insert_within and subdivide of the Rust, by node numbers with the level falling.
 ghost use mathlib.Core.Path.{_≡_};
-ghost use mathlib.Core.List.{[], _∷_};
 ghost use Prim.Native.Nat.{_≤_};
 ghost use lib.ListN.{length};
 ghost use Rattle.words.specs.Words.{words};
@@ -10,29 +9,18 @@ ghost use Rattle.pool.specs.Writes.{pool, counted, kid};
 ghost use Rattle.trees.specs.Points.{pointAt};
 ghost use Rattle.trees.proofs.Walks.{Notes};
 ghost use Rattle.trees.proofs.Turns.{turned, Parts};
-ghost use Rattle.trees.proofs.Inserts.{Inserts};
+ghost use Rattle.trees.proofs.Inserts.{Fills};
 use crate::place::point_at;
 use geometry::plane::Point2D;
 use geometry::plane::Rectangle;
 use groups::split;
+use paths::note_turn;
 use pool::append;
 use pool::child;
 use pool::count;
 use pool::count_up;
 use pool::first;
-use pool::group;
 use pool::next;
-
-// Notes a turn as number n: how many are then noted.
-fn turn_to(turns: &mut [u8], n: usize, c: u8) -> usize
-    ensures { λ r. ⌜ Notes (c ∷ []) (now (turns .entry)) n (now (turns .exit)) r ⌝ }
-{
-    if n < turns.len() {
-        turns[n] = c;
-        return n + 1;
-    }
-    n
-}
 
 // The child that each point of a list goes to, in the order of the list.
 fn turns_of(links: &[u8], points: &[u8], head: u32, bounds: Rectangle, turns: &mut [u8]) -> usize
@@ -47,7 +35,7 @@ fn turns_of(links: &[u8], points: &[u8], head: u32, bounds: Rectangle, turns: &m
         }
         let at = point_at(points, p);
         let c = (bounds.child_index(at) % 4) as u8;
-        m = turn_to(turns, m, c);
+        m = note_turn(turns, m, c);
         p = next(links, p);
         left -= 1;
     }
@@ -72,7 +60,7 @@ fn enter(nodes: &mut [u8], i: usize, k: u32, c: u8) -> usize
     child(4, k, c)
 }
 
-// Puts place p, which holds a point that lies in this box, into the tree at node i.
+// Puts place p, which holds a point that lies in this box, into the undivided node i.
 pub fn insert_within(
     nodes: &mut [u8],
     links: &mut [u8],
@@ -83,20 +71,8 @@ pub fn insert_within(
     capacity: u32,
     p: u32,
 )
-    ensures { λ _. ⌜ (length (words (now (links .entry))) ≤ 513 → Inserts 4 capacity (pointAt 2 (words (now (points .entry)))) levels (sides2 bounds) (pool (now (nodes .entry)) (now (links .entry))) (pool (now (nodes .exit)) (now (links .exit))) i p) ⌝ }
+    ensures { λ _. ⌜ (length (words (now (links .entry))) ≤ 513 → Fills 4 capacity (pointAt 2 (words (now (points .entry)))) levels (sides2 bounds) (pool (now (nodes .entry)) (now (links .entry))) (pool (now (nodes .exit)) (now (links .exit))) i p) ⌝ }
 {
-    let k = group(nodes, i);
-    let at = point_at(points, p);
-    let c = (bounds.child_index(at) % 4) as u8;
-    let part = bounds.child(c as usize);
-    if k != 0 {
-        if levels == 0 {
-            return;
-        }
-        let j = enter(nodes, i, k, c);
-        insert_within(nodes, links, points, j, part, levels - 1, capacity, p);
-        return;
-    }
     // At the depth cap the node becomes a bucket: near-coincident points can never be separated by another split.
     if levels == 0 {
         append(nodes, links, i, p);
@@ -107,6 +83,9 @@ pub fn insert_within(
         append(nodes, links, i, p);
         return;
     }
+    let at = point_at(points, p);
+    let c = (bounds.child_index(at) % 4) as u8;
+    let part = bounds.child(c as usize);
     let g = subdivide(nodes, links, points, i, bounds);
     let j = enter(nodes, i, g, c);
     insert_within(nodes, links, points, j, part, levels - 1, capacity, p);

@@ -1,5 +1,4 @@
 // The quadtree: quadtree.rs, over places in lent pieces.
-pub mod delete;
 pub mod descent;
 pub mod head;
 pub mod insert;

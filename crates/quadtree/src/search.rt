@@ -1,7 +1,6 @@
 // Searches by a radius and by a box: collect_in_radius and collect_in_bbox of the Rust, as one walk with two kinds of question.
 ghost use mathlib.Core.Path.{_≡_};
-ghost use mathlib.Core.Bool.{cond};
-ghost use mathlib.Core.List.{[], _∷_};
+ghost use mathlib.Core.Bool.{true};
 ghost use lib.ListN.{length};
 ghost use Rattle.words.specs.Words.{words};
 ghost use Rattle.geometry.specs.Sides.{place2, sides2};
@@ -12,6 +11,7 @@ ghost use Rattle.quadtree.specs.Questions.{meets, takes};
 use crate::place::point_at;
 use geometry::plane::Point2D;
 use geometry::plane::Rectangle;
+use paths::note;
 use pool::child;
 use pool::first;
 use pool::group;
@@ -43,19 +43,6 @@ fn asks(q: Question, point: Point2D) -> bool
     }
 }
 
-// Notes place p as number n, if it is to be noted: how many are then noted.
-fn note(found: &mut [u32], n: usize, p: u32, yes: bool) -> usize
-    ensures { λ r. ⌜ Notes (cond yes (p ∷ []) []) (now (found .entry)) n (now (found .exit)) r ⌝ }
-{
-    if yes {
-        if n < found.len() {
-            found[n] = p;
-            return n + 1;
-        }
-    }
-    n
-}
-
 // Notes the places of a list whose points are asked for. A list has no more places than there are links.
 fn collect_list(
     links: &[u8],
@@ -83,7 +70,46 @@ fn collect_list(
     m
 }
 
-// Notes, from number n on, the places of the points that are asked for, in the tree at node i with this box and so many levels below it.
+// Notes, from number n on, the places of the points that are asked for, in the tree at node i with this box, which can hold one, and so many levels below
+// it. A child's box is asked before the call, so that a branch that is skipped costs none.
+fn collect_within(
+    nodes: &[u8],
+    links: &[u8],
+    points: &[u8],
+    i: usize,
+    bounds: Rectangle,
+    levels: usize,
+    q: Question,
+    found: &mut [u32],
+    n: usize,
+) -> usize
+    ensures { λ r. ⌜ (meets q (sides2 bounds) ≡ true → Collects (meets q) (λ p. takes q (pointAt 2 (words (now (points .entry))) p .at)) 4 (words (now (nodes .entry))) (words (now (links .entry))) levels (sides2 bounds) i (now (found .entry)) n (now (found .exit)) r) ⌝ }
+{
+    let k = group(nodes, i);
+    if k == 0 {
+        let head = first(nodes, i);
+        return collect_list(links, points, head, q, found, n);
+    }
+    if levels == 0 {
+        return n;
+    }
+    let below = levels - 1;
+    let mut m = n;
+    let mut c: u8 = 0;
+    while c < 4 {
+        let part = bounds.child(c as usize);
+        if !reaches(q, part) {
+            c += 1;
+            continue;
+        }
+        let j = child(4, k, c);
+        m = collect_within(nodes, links, points, j, part, below, q, found, m);
+        c += 1;
+    }
+    m
+}
+
+// The same for any box.
 pub fn collect(
     nodes: &[u8],
     links: &[u8],
@@ -100,22 +126,5 @@ pub fn collect(
     if !reaches(q, bounds) {
         return n;
     }
-    let k = group(nodes, i);
-    if k == 0 {
-        let head = first(nodes, i);
-        return collect_list(links, points, head, q, found, n);
-    }
-    if levels == 0 {
-        return n;
-    }
-    let below = levels - 1;
-    let mut m = n;
-    let mut c: u8 = 0;
-    while c < 4 {
-        let j = child(4, k, c);
-        let part = bounds.child(c as usize);
-        m = collect(nodes, links, points, j, part, below, q, found, m);
-        c += 1;
-    }
-    m
+    collect_within(nodes, links, points, i, bounds, levels, q, found, n)
 }

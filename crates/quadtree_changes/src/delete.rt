@@ -3,9 +3,9 @@ ghost use mathlib.Core.List.{[], _∷_};
 ghost use Rattle.model.specs.Calls.{quadtree, Delete};
 ghost use Rattle.trees.specs.Pieces.{pieces, DoesHeld};
 use geometry::plane::Point2D;
+use paths::delete_along;
 use pool::first;
 use pool::give_place;
-use quadtree::delete::delete_within;
 use quadtree::descent::find_in;
 use quadtree::descent::leaf_of;
 use quadtree::head::boundary;
@@ -28,7 +28,8 @@ pub fn delete(
     if !bounds.contains(at) {
         return 1;
     }
-    let leaf = leaf_of(nodes, 1, bounds, 32, at);
+    let mut path: [usize; 32] = [0; 32];
+    let leaf = leaf_of(nodes, 1, bounds, 32, at, &mut path);
     let start = first(nodes, leaf.node);
     let spot = find_in(links, points, start, at, mark);
     let p = spot.place;
@@ -36,16 +37,18 @@ pub fn delete(
         return 2;
     }
     let most = capacity(head);
-    delete_within(
+    // NE, NW, SE, SW.
+    let order: [u8; 4] = [1, 0, 3, 2];
+    delete_along(
         nodes,
         links,
-        1,
-        bounds,
-        32,
+        &path,
+        0,
+        leaf.depth,
+        leaf.node,
+        4,
+        &order,
         most,
-        at,
-        mark,
-        points,
         p,
         spot.before,
     );

@@ -25,7 +25,9 @@ pub fn contains(
     if !bounds.contains(point) {
         return 0;
     }
-    let leaf = leaf_of(nodes, 1, bounds, 32, point);
+    // Nothing is done along the way, so that no path is kept.
+    let mut path: [usize; 1] = [0; 1];
+    let leaf = leaf_of(nodes, 1, bounds, 32, point, &mut path);
     let start = first(nodes, leaf.node);
     let spot = find_in(links, points, start, point, mark);
     if spot.place == 0 { 0 } else { 1 }

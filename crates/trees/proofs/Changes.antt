@@ -32,10 +32,11 @@ use Rattle.pool.proofs.Lists.{by-lt, ifz-no, ifz-yes, is-same}
 use Rattle.pool.proofs.Trees.{groupCount}
 use Rattle.trees.specs.Pieces.{DoesHeld, Fits, Gives, Pieces, Says, boundaryOf, capacityOf, pieces, planOf}
 use Rattle.trees.specs.Points.{pointAt}
-use Rattle.trees.proofs.Descents.{Found, Needs, Spot, listAt, reach, reach-found}
+use Rattle.trees.proofs.Descents.{Found, Needs, Spot, child-erase, listAt, reach, reach-found}
 use Rattle.trees.proofs.Held.{Held, Roomy, does-held, groups-held, links-long, nodes-held, places-held, plan-numbers, refusal, says-held, size-held, size-read, some-ways, whole}
-use Rattle.trees.proofs.Inserts.{Inserts, child-erase}
+use Rattle.trees.proofs.Inserts.{Fills, Inserts, inserts-along}
 use Rattle.trees.proofs.Puts.{point-back, point-other, putPoint}
+use Rattle.trees.proofs.Ways.{countedAll, way}
 
 -- ---- the splits that are counted at the node where the way down ends
 module _ (ways cap : ℕ) (pt : ℕ → Point) (q : Point) (n x : List ℕ) where
@@ -48,7 +49,7 @@ module _ (ways cap : ℕ) (pt : ℕ → Point) (q : Point) (n x : List ℕ) wher
   needed-at (suc d) b i (leaf l) r eb = subst (counted (suc d) b (leaf l)) (sym (ifz-yes (getD n (4 * i) 0) _ _ (r .1))) refl
   needed-at (suc d) b i (branch g ts) r eb =
       subst (counted (suc d) b (branch g ts)) (sym (ifz-no (getD n (4 * i) 0) _ _ (λ e. r .2 (sym (r .1) ∙ e)) ∙ ap (λ (u : ℕ). reach ways n (q .at) d (part b (route b (q .at))) (kid ways u (route b (q .at)))) (r .1)))
-      (ap (needed cap d (part b (route b (q .at))) q) (child-erase ways cap pt d ts (route b (q .at)))
+      (ap (needed cap d (part b (route b (q .at))) q) (child-erase pt d ts (route b (q .at)))
       ∙ needed-at d (part b (route b (q .at))) (kid ways g (route b (q .at))) (getD ts (route b (q .at)) (none d)) (r .5 (route b (q .at)) (in-range ways cap b q ways eb refl)) (part-ways ways cap b (route b (q .at)) eb))
 
 -- ---- whether there are groups for what an insertion takes
@@ -104,7 +105,8 @@ module _ (axes ways cap d : ℕ) (b : List Side) (i : ℕ) (q : Point) where
       → needed cap d b q (erase (pointAt axes w) d t) ≤ length fl → length (s .links) ≤ 513 → size d t + 1 < 4294967296 → (axes + 1) * p + axes < length w / 2 → Stored r w w' t fl p fp
 
   module _ (s r : Pool) (x w w' : List ℕ) (p' : ℕ) (ex : x ≡ popped (s .links)) (tk : TakesPlace (s .links) x p') (ew : w' ≡ putPoint axes w p' q) (eq : length (q .at) ≡ axes) (fq : F64Point q)
-      (go : length x ≤ 513 → Inserts ways cap (pointAt axes w') d b (both (s .nodes) x) r i p') where
+      (sp : Spot) (esp : sp ≡ reach ways (s .nodes) (q .at) d b i) (n : List ℕ) (en : n ≡ countedAll (s .nodes) (way ways (s .nodes) (q .at) d b i))
+      (go : length x ≤ 513 → Fills ways cap (pointAt axes w') (sp .levels) (sp .box) (both n x) r (sp .node) p') where
     lx : length x ≡ length (s .links)
     unfolding popped
     lx = ap (λ (l : List ℕ). length l) ex ∙ length-set (s .links) 0 (getD (s .links) (getD (s .links) 0 0) 0)
@@ -112,6 +114,12 @@ module _ (axes ways cap d : ℕ) (b : List Side) (i : ℕ) (q : Point) where
     -- the place that is written is not in the tree
     same-tree : (t : PTree d) → placesAt d p' t ≡ 0 → erase (pointAt axes w') d t ≡ erase (pointAt axes w) d t
     same-tree t o = erase-agree (pointAt axes w') (pointAt axes w) d t (λ u nz. ap (λ (v : List ℕ). pointAt axes v u) ew ∙ point-other axes w p' q eq u (λ e. nz (ap (λ (v : ℕ). placesAt d v t) e ∙ o)))
+
+    -- the way was gone before the point was written, and is the way of that point
+    inserted : length x ≤ 513 → pointAt axes w' p' ≡ q → Inserts ways cap (pointAt axes w') d b (both (s .nodes) x) r i p'
+    inserted few at = inserts-along ways cap (pointAt axes w') r p' d b (both (s .nodes) x) i
+        (subst (λ (v : List Float). Fills ways cap (pointAt axes w') (reach ways (s .nodes) v d b i .levels) (reach ways (s .nodes) v d b i .box) (both (countedAll (s .nodes) (way ways (s .nodes) v d b i)) x) r (reach ways (s .nodes) v d b i .node) p') (sym (ap (λ (u : Point). u .at) at))
+        (subst (λ (e : Spot). Fills ways cap (pointAt axes w') (e .levels) (e .box) (both (countedAll (s .nodes) (way ways (s .nodes) (q .at) d b i)) x) r (e .node) p') esp (subst (λ (m : List ℕ). Fills ways cap (pointAt axes w') (sp .levels) (sp .box) (both m x) r (sp .node) p') en (go few))))
 
     pub stores : Stores s r w w'
     unfolding Stores TakesPlace Inserts
@@ -125,7 +133,7 @@ module _ (axes ways cap d : ℕ) (b : List Side) (i : ℕ) (q : Point) where
             let same : erase (pointAt axes w') d t ≡ erase (pointAt axes w) d t = same-tree t (omega (arith, o)) in
             let at : pointAt axes w' p' ≡ q = ap (λ (v : List ℕ). pointAt axes v p') ew ∙ point-back axes w p' q eq fq (subst (λ (u : ℕ). (axes + 1) * u + axes < length w / 2) (sym ep) room) in
             let need : needed cap d b (pointAt axes w' p') (erase (pointAt axes w') d t) ≡ needed cap d b q (erase (pointAt axes w) d t) = ap₂ (needed cap d b) at same in
-            let gr = go (omega (arith, few, lx)) t fl fp w1
+            let gr = inserted (omega (arith, few, lx)) at t fl fp w1
             (record { out = o; nonzero = λ z. wd .spare .1 (sym ep ∙ z); inside = omega (arith, ep, lx, wd .spare .2); few = sz }) lw eb (subst (Good ways cap d b) (sym same) gd) (omega (arith, need, le)) in
             record {
               tree = gr .tree;

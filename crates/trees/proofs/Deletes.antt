@@ -24,10 +24,11 @@ use Rattle.pool.proofs.Down.{back, down-counted}
 use Rattle.pool.proofs.Erase.{erase-count, erase-flat, erase-joined}
 use Rattle.pool.proofs.Frames.{same-then}
 use Rattle.pool.proofs.Joins.{joined-sum, once-sum}
-use Rattle.pool.proofs.Lists.{by-eq, occ-append, sum-at, sum-set}
+use Rattle.pool.proofs.Lists.{by-eq, ifz-no, ifz-yes, occ-append, sum-at, sum-set}
 use Rattle.pool.proofs.Trees.{flats-groups, flats-places, flats-size, groups-flat, places-flat, size-flat}
-use Rattle.trees.proofs.Descents.{listAt}
-use Rattle.trees.proofs.Inserts.{child-erase, map-set}
+use Rattle.trees.proofs.Descents.{Spot, child-erase, listAt, reach}
+use Rattle.trees.proofs.Inserts.{map-set}
+use Rattle.trees.proofs.Ways.{lowered-groups, reach-same, way, way-last, way-here, way-more, way-same}
 
 -- an order that has each number once, in the model's words and in those of the pool
 sum-total : (f : ℕ → ℕ) (l : List ℕ) → sumOf f l ≡ total (map f l)
@@ -113,7 +114,7 @@ module _ (ways cap : ℕ) (order : List ℕ) (pt : ℕ → Point) (q : Point) wh
     -- the child that the point goes to
     kid-good : Good ways cap (suc d) b (erase pt (suc d) (branch g ts)) → Good ways cap d (part b c) (erase pt d (getD ts c (none d)))
     unfolding erase
-    kid-good gd = subst (Good ways cap d (part b c)) (child-erase ways cap pt d ts c) (chosen ways cap d b q (map (erase pt d) ts) eb (gd .0) (gd .2) .1)
+    kid-good gd = subst (Good ways cap d (part b c)) (child-erase pt d ts c) (chosen ways cap d b q (map (erase pt d) ts) eb (gd .0) (gd .2) .1)
 
     kid-there : There (suc d) b p before (branch g ts) → There d (part b c) p before (getD ts c (none d))
     unfolding listAt
@@ -136,7 +137,7 @@ module _ (ways cap : ℕ) (order : List ℕ) (pt : ℕ → Point) (q : Point) wh
         record {
           world = up .0;
           frame = up .1;
-          erased = map-set (erase pt d) ts c (sh .tree) ∙ ap (set (map (erase pt d) ts) c) (sh .erased ∙ ap (deleteS order cap d (part b c) q) (sym (child-erase ways cap pt d ts c)));
+          erased = map-set (erase pt d) ts c (sh .tree) ∙ ap (set (map (erase pt d) ts) c) (sh .erased ∙ ap (deleteS order cap d (part b c) q) (sym (child-erase pt d ts c)));
           groups = λ h. omega (arith, sh .groups h, sum-set (groupsAt d h) ts c (sh .tree) (none d) lt);
           places = λ v. omega (arith, sh .places v, sum-set (placesAt d v) ts c (sh .tree) (none d) lt);
           sizes = omega (arith, sh .sizes, sum-set (size d) ts c (sh .tree) (none d) lt);
@@ -149,7 +150,7 @@ module _ (ways cap : ℕ) (order : List ℕ) (pt : ℕ → Point) (q : Point) wh
         (λ k. subst (λ (u : ℕ). Good ways cap d (part b u) (erase pt d (getD (set ts c t') u (none d)))) (sym k)
         (subst (λ (u : PTree d). Good ways cap d (part b c) (erase pt d u)) (sym (getD-set-same ts c t' (none d) lt)) (subst (Good ways cap d (part b c)) (sym et) (delete-good ways cap order od d (part b c) q (erase pt d (getD ts c (none d))) (part-ways ways cap b c eb) (kid-good gd)))))
         (λ k. subst (λ (u : PTree d). Good ways cap d (part b e) (erase pt d u)) (sym (getD-set-other ts c e t' (none d) k))
-        (subst (λ (u : Tree d). Good ways cap d (part b e) u) (child-erase ways cap pt d ts e) (subst (λ (u : ℕ). Good ways cap d (part b u) (getD (map (erase pt d) ts) e (bag d []))) {x = 0 + e} {y = e} (omega arith) (each-get (GoodChild ways cap d b) (bag d []) 0 (map (erase pt d) ts) e (omega (arith, le, length-map ts (erase pt d), w .rep .4)) (gd .2) .1))))
+        (subst (λ (u : Tree d). Good ways cap d (part b e) u) (child-erase pt d ts e) (subst (λ (u : ℕ). Good ways cap d (part b u) (getD (map (erase pt d) ts) e (bag d []))) {x = 0 + e} {y = e} (omega arith) (each-get (GoodChild ways cap d b) (bag d []) 0 (map (erase pt d) ts) e (omega (arith, le, length-map ts (erase pt d), w .rep .4)) (gd .2) .1))))
 
   -- ---- a divided node is looked at again
   held-size : (d g : ℕ) (us : List (PTree d)) → length (flatten (map (held d) (map (erase pt d) us))) ≡ sumOf (size d) us
@@ -230,17 +231,6 @@ module _ (ways cap : ℕ) (order : List ℕ) (pt : ℕ → Point) (q : Point) wh
       }
 
   -- ---- the ways of the code
-  pub deletes-last : (d : ℕ) (b : List Side) (s r : Pool) (i p before : ℕ) → d ≡ 0 → Cuts s r i p before → Deletes d b s r i p before
-  unfolding Deletes
-  deletes-last zero b s r i p before e ct l fl fp w lw om eb gd h = cut-shrunk zero b s r i p before l fl fp ct w lw h
-  deletes-last (suc d) b s r i p before e ct t fl fp w lw om eb gd h = absurd (omega arith)
-
-  pub deletes-cut : (d : ℕ) (b : List Side) (s r : Pool) (i p before k : ℕ) → k ≡ getD (s .nodes) (4 * i) 0 → k ≡ 0 → Cuts s r i p before → Deletes d b s r i p before
-  unfolding Deletes
-  deletes-cut zero b s r i p before k ek z ct l fl fp w lw om eb gd h = cut-shrunk zero b s r i p before l fl fp ct w lw h
-  deletes-cut (suc d) b s r i p before k ek z ct (leaf l) fl fp w lw om eb gd h = cut-shrunk (suc d) b s r i p before l fl fp ct w lw h
-  deletes-cut (suc d) b s r i p before k ek z ct (branch g ts) fl fp w lw om eb gd h = absurd (w .rep .2 (sym (w .rep .1) ∙ sym ek ∙ z))
-
   deletes-same : (d d' : ℕ) (b b' : List Side) (s r : Pool) (j j' p before : ℕ) → d ≡ d' → b ≡ b' → j ≡ j' → Deletes d b s r j p before → Deletes d' b' s r j' p before
   deletes-same d d' b b' s r j j' p before ed eb ej z = subst (λ (u : ℕ). Deletes d' b' s r u p before) ej (subst (λ (u : List Side). Deletes d' u s r j p before) eb (subst (λ (u : ℕ). Deletes u b s r j p before) ed z))
 
@@ -252,7 +242,7 @@ module _ (ways cap : ℕ) (order : List ℕ) (pt : ℕ → Point) (q : Point) wh
       go (getD ts (route b (q .at)) (none d)) fl fp (down-counted d ways s i g ts fl fp w n (route b (q .at)) (getD (s .nodes) (4 * i + 3) 0 - 1) (in-range ways cap b q ways eb refl) en) lw om (part-ways ways cap b (route b (q .at)) eb)
       (kid-good d b s r n i p before g ts fl fp w eb gd) (kid-there d b s r n i p before g ts fl fp w eb h)
 
-  pub deletes-keep : (d : ℕ) (b b' : List Side) (s r : Pool) (n : List ℕ) (i p before k v c j : ℕ) → k ≡ getD (s .nodes) (4 * i) 0 → k ≢ 0 → d ≢ 0 → v ≡ getD (s .nodes) (4 * i + 3) 0 → n ≡ lowered (s .nodes) i → c ≡ route b (q .at) → j ≡ kid ways k c → b' ≡ part b c
+  deletes-keep : (d : ℕ) (b b' : List Side) (s r : Pool) (n : List ℕ) (i p before k v c j : ℕ) → k ≡ getD (s .nodes) (4 * i) 0 → k ≢ 0 → d ≢ 0 → v ≡ getD (s .nodes) (4 * i + 3) 0 → n ≡ lowered (s .nodes) i → c ≡ route b (q .at) → j ≡ kid ways k c → b' ≡ part b c
       → Deletes (d - 1) b' (both n (s .links)) r j p before → cap + 1 < v → Deletes d b s r i p before
   unfolding Deletes
   deletes-keep zero b b' s r n i p before k v c j ek nz dz ev en ec ej eb' go more t fl fp w lw om eb gd h = absurd (dz refl)
@@ -262,7 +252,7 @@ module _ (ways cap : ℕ) (order : List ℕ) (pt : ℕ → Point) (q : Point) wh
       let hf = half d b s r n i p before g ts fl fp w eb sh en in
       branch-kept d b s r n i p before g ts fl fp w eb (sh .tree) (sh .free) hf (omega (arith, more, ev, w .rep .3, hf .sizes))
 
-  pub deletes-merge : (d : ℕ) (b b' : List Side) (s s1 r : Pool) (n : List ℕ) (i p before k v c j : ℕ) → k ≡ getD (s .nodes) (4 * i) 0 → k ≢ 0 → d ≢ 0 → v ≡ getD (s .nodes) (4 * i + 3) 0 → n ≡ lowered (s .nodes) i → c ≡ route b (q .at) → j ≡ kid ways k c → b' ≡ part b c
+  deletes-merge : (d : ℕ) (b b' : List Side) (s s1 r : Pool) (n : List ℕ) (i p before k v c j : ℕ) → k ≡ getD (s .nodes) (4 * i) 0 → k ≢ 0 → d ≢ 0 → v ≡ getD (s .nodes) (4 * i + 3) 0 → n ≡ lowered (s .nodes) i → c ≡ route b (q .at) → j ≡ kid ways k c → b' ≡ part b c
       → Deletes (d - 1) b' (both n (s .links)) s1 j p before → v ≤ cap + 1 → Merges ways order s1 r i k → Deletes d b s r i p before
   unfolding Deletes
   deletes-merge zero b b' s s1 r n i p before k v c j ek nz dz ev en ec ej eb' go few mg t fl fp w lw om eb gd h = absurd (dz refl)
@@ -275,3 +265,49 @@ module _ (ways cap : ℕ) (order : List ℕ) (pt : ℕ → Point) (q : Point) wh
       branch-merged d b s s1 r n i p before g ts fl fp w eb (sh .tree) (sh .free) hf all
       (flats-of d us (λ e le. good-flat d (part b e) (getD us e (none d)) (kids-good d b s s1 n i p before g ts fl fp w eb (sh .tree) e (omega (arith, le, hf .world .rep .4)) om gd (sh .erased)) (omega (arith, all, sum-at (size d) us e (none d) le))))
       lw (order-once ways order om) (subst (λ (u : ℕ). Merges ways order s1 r i u) (ek ∙ w .rep .1) mg)
+
+  -- ---- along a way that is known: the nodes that are left of it, and the node where it ends
+  unfoldable pub Along : List ℕ → Pool → Pool → (leaf p before : ℕ) → Type 0
+  unfolding way reach Deletes
+  Along w s r end p before = (d : ℕ) (b : List Side) (i : ℕ) → w ≡ way ways (s .nodes) (q .at) d b i → end ≡ reach ways (s .nodes) (q .at) d b i .node → Deletes d b s r i p before
+
+  pub along-cut : (w : List ℕ) (s r : Pool) (end p before : ℕ) → w ≡ [] → Cuts s r end p before → Along w s r end p before
+  unfolding Along Deletes reach way
+  along-cut w s r end p before e ct zero b i ew el l fl fp wd lw om eb gd h = cut-shrunk zero b s r i p before l fl fp (subst (λ (u : ℕ). Cuts s r u p before) el ct) wd lw h
+  along-cut w s r end p before e ct (suc d) b i ew el (leaf l) fl fp wd lw om eb gd h =
+      cut-shrunk (suc d) b s r i p before l fl fp (subst (λ (u : ℕ). Cuts s r u p before) (el ∙ ap (λ (u : Spot). u .node) (ifz-yes (getD (s .nodes) (4 * i) 0) _ _ (wd .rep .1))) ct) wd lw h
+  along-cut w s r end p before e ct (suc d) b i ew el (branch g ts) fl fp wd lw om eb gd h =
+      absurd (omega (arith, ap length (sym e ∙ ew ∙ ifz-no (getD (s .nodes) (4 * i) 0) _ _ (λ z. wd .rep .2 (sym (wd .rep .1) ∙ z)))))
+
+  module _ (w rest : List ℕ) (s s1 : Pool) (n : List ℕ) (end p before k v j : ℕ) (ew : w ≡ j ∷ rest) (ek : k ≡ getD (s .nodes) (4 * j) 0) (ev : v ≡ getD (s .nodes) (4 * j + 3) 0) (en : n ≡ lowered (s .nodes) j)
+      (go : Along rest (both n (s .links)) s1 end p before) where
+    groups-same : (u : ℕ) → getD n (4 * u) 0 ≡ getD (s .nodes) (4 * u) 0
+    groups-same u = ap (λ (m : List ℕ). getD m (4 * u) 0) en ∙ lowered-groups (s .nodes) j u
+
+    on : (d : ℕ) (b : List Side) (i : ℕ) → w ≡ way ways (s .nodes) (q .at) d b i → end ≡ reach ways (s .nodes) (q .at) d b i .node → Deletes (d - 1) (part b (route b (q .at))) (both n (s .links)) s1 (kid ways (getD (s .nodes) (4 * i) 0) (route b (q .at))) p before
+    unfolding Along
+    on d b i e el =
+        let m = way-more ways (s .nodes) (q .at) d b i j rest (sym ew ∙ e) in
+        go (d - 1) (part b (route b (q .at))) (kid ways (getD (s .nodes) (4 * i) 0) (route b (q .at)))
+        (m .goes-on ∙ sym (way-same ways (s .nodes) n (q .at) groups-same (d - 1) (part b (route b (q .at))) (kid ways (getD (s .nodes) (4 * i) 0) (route b (q .at)))))
+        (el ∙ ap (λ (u : Spot). u .node) (m .ends ∙ sym (reach-same ways (s .nodes) n (q .at) groups-same (d - 1) (part b (route b (q .at))) (kid ways (getD (s .nodes) (4 * i) 0) (route b (q .at))))))
+
+    pub along-keep : cap + 1 < v → Along w s s1 end p before
+    unfolding Along
+    along-keep more d b i e el =
+        let m = way-more ways (s .nodes) (q .at) d b i j rest (sym ew ∙ e) in
+        deletes-keep d b (part b (route b (q .at))) s s1 n i p before (getD (s .nodes) (4 * i) 0) v (route b (q .at)) (kid ways (getD (s .nodes) (4 * i) 0) (route b (q .at))) refl (m .divided) (m .deep)
+        (ev ∙ ap (λ (u : ℕ). getD (s .nodes) (4 * u + 3) 0) (m .same)) (en ∙ ap (lowered (s .nodes)) (m .same)) refl refl refl (on d b i e el) more
+
+    pub along-merge : (r : Pool) → v ≤ cap + 1 → Merges ways order s1 r j k → Along w s r end p before
+    unfolding Along
+    along-merge r few mg d b i e el =
+        let m = way-more ways (s .nodes) (q .at) d b i j rest (sym ew ∙ e) in
+        deletes-merge d b (part b (route b (q .at))) s s1 r n i p before (getD (s .nodes) (4 * i) 0) v (route b (q .at)) (kid ways (getD (s .nodes) (4 * i) 0) (route b (q .at))) refl (m .divided) (m .deep)
+        (ev ∙ ap (λ (u : ℕ). getD (s .nodes) (4 * u + 3) 0) (m .same)) (en ∙ ap (lowered (s .nodes)) (m .same)) refl refl refl (on d b i e el) few
+        (subst (λ (u : ℕ). Merges ways order s1 r u (getD (s .nodes) (4 * u) 0)) (m .same) (subst (Merges ways order s1 r j) ek mg))
+
+  -- a whole way that was noted
+  pub along-all : (d : ℕ) (b : List Side) (w : List ℕ) (s r : Pool) (i p before : ℕ) (e : Spot) → Along w s r (e .node) p before → w ≡ way ways (s .nodes) (q .at) d b i → e ≡ reach ways (s .nodes) (q .at) d b i → Deletes d b s r i p before
+  unfolding Along
+  along-all d b w s r i p before e go ew er = go d b i ew (ap (λ (u : Spot). u .node) er)

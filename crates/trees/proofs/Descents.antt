@@ -82,7 +82,7 @@ reach-found ways n x v (suc d) b i (branch k ts) r u lr all =
 
 -- ---- what the model takes out, and the splits that it counts, at this list
 module _ (pt : ℕ → Point) where
-  child-erase : (d : ℕ) (ts : List (PTree d)) (c : ℕ) → getD (map (erase pt d) ts) c (bag d []) ≡ erase pt d (getD ts c (none d))
+  pub child-erase : (d : ℕ) (ts : List (PTree d)) (c : ℕ) → getD (map (erase pt d) ts) c (bag d []) ≡ erase pt d (getD ts c (none d))
   child-erase d ts c = ap (getD (map (erase pt d) ts) c) (sym (erase-flat pt d [])) ∙ List·getD-map (erase pt d) ts c (none d)
 
   pub taken-at : (p : Point) (d : ℕ) (b : List Side) (t : PTree d) → taken d b p (erase pt d t) ≡ first p (map pt (listAt (p .at) d b t))

@@ -6,7 +6,7 @@ use mathlib.Core.List.{List, [], _∷_, _++_, map}
 use Prim.Native.Nat.{ℕ, _+_, _-_, _<_}
 use native.Mathlib.Omega.{arith}
 use lib.Dec.{eqb}
-use borrow.Author.Tests.{ne-eqb}
+use borrow.Author.Tests.{eq-eqb, ne-eqb}
 use lib.Ieee.{Float}
 use lib.ListN.{getD}
 use Rattle.model.specs.Boxes.{samePlace}
@@ -84,6 +84,19 @@ module _ (pt : ℕ → Point) (p : Point) where
 pub seek-whole : (f : ℕ → Bool) (fuel all : ℕ) (x : List ℕ) (h : ℕ) (s : Place) → all ≡ fuel → s ≡ seek f (chain fuel x h) 0 → s ≡ seek f (chain all x h) 0
 seek-whole f fuel all x h s e q = q ∙ ap (λ (j : ℕ). seek f (chain j x h) 0) (sym e)
 
-pub same-of : (v w : List Float) (m k : ℕ) (q : Point) (a b : Bool) → a ≡ samePlace v w → w ≡ q .at → k ≡ q .payload → b ≡ eqb m k → a && b ≡ same (record { at = v; payload = m }) q
+-- the payload is asked first
+pub same-other : (v : List Float) (m k : ℕ) (q : Point) → k ≡ q .payload → k ≢ m → false ≡ same (record { at = v; payload = m }) q
 unfolding same
-same-of v w m k q a b ea ew ek eb = ap₂ (λ (s t : Bool). s && t) (ea ∙ ap (samePlace v) ew) (eb ∙ ap (eqb m) ek)
+same-other v m k q ek ne = sym (ap (λ (t : Bool). samePlace v (q .at) && t) (ap (eqb m) (sym ek) ∙ ne-eqb m k (λ e. ne (sym e))) ∙ never (samePlace v (q .at)))
+  where
+    never : (a : Bool) → (a && false) ≡ false
+    never true = refl
+    never false = refl
+
+pub same-here : (v w : List Float) (m k : ℕ) (q : Point) (a : Bool) → a ≡ samePlace v w → w ≡ q .at → k ≡ q .payload → k ≡ m → a ≡ same (record { at = v; payload = m }) q
+unfolding same
+same-here v w m k q a ea ew ek e = ea ∙ ap (samePlace v) ew ∙ sym (ap (λ (t : Bool). samePlace v (q .at) && t) (ap (eqb m) (sym ek) ∙ eq-eqb m k (sym e)) ∙ as-is (samePlace v (q .at)))
+  where
+    as-is : (a : Bool) → (a && true) ≡ a
+    as-is true = refl
+    as-is false = refl

@@ -7,6 +7,7 @@ use Prim.Native.Nat.{ℕ, zero, suc, _+_, _*_, _-_, _%_, _^_, _<_, _≤_}
 use native.Mathlib.Numerals.{sub-one}
 use native.Mathlib.Omega.{arith}
 use lib.Dec.{eqb}
+use lib.Ieee.{Float}
 use lib.ListN.{length, getD, set, length-set, length-map, length-append, List·getD-map, replicate, length-replicate, getD-replicate}
 use lib.Seq.{ext-getD, getD-set-same, getD-set-other}
 use borrow.Author.Tests.{eq-eqb, le-ltb, lt-ltb, ne-eqb}
@@ -21,15 +22,17 @@ use Rattle.model.proofs.Short.{deal, goes, insertS}
 use Rattle.pool.specs.Lists.{is, occ, sumOf}
 use Rattle.pool.specs.Meanings.{Appends, Splits}
 use Rattle.pool.specs.Trees.{leaf, branch, PTree, flat, flats, none, erase, groupsAt, placesAt, size, dealt, dealtFrom}
-use Rattle.pool.specs.Worlds.{RepLeaf, World, Frame, Ready}
+use Rattle.pool.specs.Worlds.{Rep, RepLeaf, World, Frame, Ready}
 use Rattle.pool.specs.Writes.{Pool, both, kid, counted, turnAt}
 use Rattle.pool.proofs.Down.{back, down-counted}
 use Rattle.pool.proofs.Erase.{erase-flat}
 use Rattle.pool.proofs.Frames.{same-then}
-use Rattle.pool.proofs.Lists.{by-eq, is-eq, is-other, occ-append, sum-at, sum-set}
+use Rattle.pool.proofs.Lists.{by-eq, ifz-no, ifz-yes, is-eq, is-other, occ-append, sum-at, sum-set}
 use Rattle.pool.proofs.Deals.{dealt-long, dealt-occ, dealt-size}
 use Rattle.pool.proofs.Trees.{flats-at, flats-groups, flats-places, flats-size, groups-flat, places-flat, size-flat}
+use Rattle.trees.proofs.Descents.{Spot, child-erase, reach}
 use Rattle.trees.proofs.Walks.{keep-at}
+use Rattle.trees.proofs.Ways.{countedAll, counted-groups, reach-same, way, way-same}
 
 -- the model's insertion into an undivided node, with room and full
 insert-room : (w cap d : ℕ) (b : List Side) (p : Point) (ps : List Point) → length ps < cap → insertS w cap (suc d) b p (model.leaf ps) ≡ model.leaf (ps ++ (p ∷ []))
@@ -92,12 +95,9 @@ module _ (ways cap : ℕ) (pt : ℕ → Point) where
       }
 
   -- ---- into a divided node
-  pub child-erase : (d : ℕ) (ts : List (PTree d)) (c : ℕ) → getD (map (erase pt d) ts) c (bag d []) ≡ erase pt d (getD ts c (none d))
-  child-erase d ts c = ap (getD (map (erase pt d) ts) c) (sym (erase-flat pt d [])) ∙ List·getD-map (erase pt d) ts c (none d)
-
   need-branch : (d : ℕ) (b : List Side) (p g : ℕ) (ts : List (PTree d)) → needed cap (suc d) b (pt p) (erase pt (suc d) (branch g ts)) ≡ needed cap d (part b (route b (pt p .at))) (pt p) (erase pt d (getD ts (route b (pt p .at)) (none d)))
   unfolding needed erase
-  need-branch d b p g ts = ap (needed cap d (part b (route b (pt p .at))) (pt p)) (child-erase d ts (route b (pt p .at)))
+  need-branch d b p g ts = ap (needed cap d (part b (route b (pt p .at))) (pt p)) (child-erase pt d ts (route b (pt p .at)))
 
   branch-erase : (d : ℕ) (b : List Side) (p g : ℕ) (ts us : List (PTree d)) → map (erase pt d) us ≡ into d (insertS ways cap d) b (pt p) (map (erase pt d) ts) → erase pt (suc d) (branch g us) ≡ insertS ways cap (suc d) b (pt p) (erase pt (suc d) (branch g ts))
   unfolding erase insertS
@@ -108,7 +108,7 @@ module _ (ways cap : ℕ) (pt : ℕ → Point) where
   unfolding into
   into-erase d b p ts t e =
       map-set (erase pt d) ts (route b (pt p .at)) t
-      ∙ ap (set (map (erase pt d) ts) (route b (pt p .at))) (e ∙ ap (insertS ways cap d (part b (route b (pt p .at))) (pt p)) (sym (child-erase d ts (route b (pt p .at)))))
+      ∙ ap (set (map (erase pt d) ts) (route b (pt p .at))) (e ∙ ap (insertS ways cap d (part b (route b (pt p .at))) (pt p)) (sym (child-erase pt d ts (route b (pt p .at)))))
 
   module _ (d : ℕ) (b : List Side) (s : Pool) (i p g : ℕ) (ts : List (PTree d)) (fl fp : List ℕ) (w : World (suc d) ways s i (branch g ts) fl fp) (rd : Ready (suc d) s (branch g ts) fp p) (eb : 2 ^ length b ≡ ways) where
     abbrev c : ℕ
@@ -194,7 +194,7 @@ module _ (ways cap : ℕ) (pt : ℕ → Point) where
 
       at : (c : ℕ) → c < ways → getD (map (erase pt d) (flats d (dealt ways ts l))) c (bag d []) ≡ getD (deal d b (map pt l) 0 ways) c (bag d [])
       at c lc =
-          child-erase d (flats d (dealt ways ts l)) c ∙ ap (erase pt d) (flats-at d (dealt ways ts l) c) ∙ erase-flat pt d (getD (dealt ways ts l) c [])
+          child-erase pt d (flats d (dealt ways ts l)) c ∙ ap (erase pt d) (flats-at d (dealt ways ts l) c) ∙ erase-flat pt d (getD (dealt ways ts l) c [])
           ∙ ap (λ (u : List ℕ). bag d (map pt u)) (dealt-keep b ts 0 l (replicate ways []) c (λ k lk. ap (turnAt ways ts) {x = 0 + k} {y = k} (omega arith) ∙ tr k lk) (λ q. omega (arith, in-range ways cap b (pt q) ways eb refl, length-replicate {A = List ℕ} ways []))
           ∙ ap (λ (u : List ℕ). u ++ keep (λ q. eqb (route b (pt q .at)) c) l) (getD-replicate {A = List ℕ} ways c [] [] lc))
           ∙ ap (bag d) (keep-at pt (λ u. true) (goes b c) l)
@@ -229,7 +229,7 @@ module _ (ways cap : ℕ) (pt : ℕ → Point) where
 
     -- the child that gets the point
     kid-erase : erase pt d (getD ks e (none d)) ≡ bag d (keep (goes b e) (map pt l))
-    kid-erase = sym (child-erase d ks e) ∙ ap (λ (us : List (Tree d)). getD us e (bag d [])) (dealt-erase d b ts l eb tr)
+    kid-erase = sym (child-erase pt d ks e) ∙ ap (λ (us : List (Tree d)). getD us e (bag d [])) (dealt-erase d b ts l eb tr)
         ∙ deal-at d b (map pt l) 0 ways e (in-range ways cap b (pt p) ways eb refl) ∙ ap (λ (m : ℕ). bag d (keep (goes b m) (map pt l))) {x = 0 + e} {y = e} (omega arith)
 
     need-split : length l ≤ cap → cap ≤ length l → needed cap (suc d) b (pt p) (erase pt (suc d) (leaf l)) ≡ suc (needed cap d (part b e) (pt p) (erase pt d (getD ks e (none d))))
@@ -259,46 +259,58 @@ module _ (ways cap : ℕ) (pt : ℕ → Point) where
       left = omega (arith, gr .left, need-split h k, need-branch d b p g ks);
     }
 
-  inserts-same : (d d' : ℕ) (b b' : List Side) (s r : Pool) (j j' p : ℕ) → d ≡ d' → b ≡ b' → j ≡ j' → Inserts d b s r j p → Inserts d' b' s r j' p
-  inserts-same d d' b b' s r j j' p ed eb ej q = subst (λ (u : ℕ). Inserts d' b' s r u p) ej (subst (λ (u : List Side). Inserts d' u s r j p) eb (subst (λ (u : ℕ). Inserts u b s r j p) ed q))
-
   -- the routed child of a good tree
   kid-good : (d : ℕ) (b : List Side) (p g : ℕ) (ts : List (PTree d)) → 2 ^ length b ≡ ways → Good ways cap (suc d) b (erase pt (suc d) (branch g ts))
       → Good ways cap d (part b (route b (pt p .at))) (erase pt d (getD ts (route b (pt p .at)) (none d)))
   unfolding erase
-  kid-good d b p g ts eb gd = subst (Good ways cap d (part b (route b (pt p .at)))) (child-erase d ts (route b (pt p .at))) (chosen ways cap d b (pt p) (map (erase pt d) ts) eb (gd .0) (gd .2) .1)
+  kid-good d b p g ts eb gd = subst (Good ways cap d (part b (route b (pt p .at)))) (child-erase pt d ts (route b (pt p .at))) (chosen ways cap d b (pt p) (map (erase pt d) ts) eb (gd .0) (gd .2) .1)
 
-  -- ---- the four ways of the code
-  pub inserts-none : (d : ℕ) (b : List Side) (s : Pool) (i p k : ℕ) → k ≡ getD (s .nodes) (4 * i) 0 → k ≢ 0 → d ≡ 0 → Inserts d b s s i p
+  -- ---- the three ways of the code, at an undivided node
+  unfoldable pub Fills : (d : ℕ) → List Side → Pool → Pool → ℕ → ℕ → Type 0
   unfolding Inserts
-  inserts-none zero b s i p k ek nz e t fl fp w rd lw eb gd le = absurd (nz (ek ∙ w .rep .1))
-  inserts-none (suc d) b s i p k ek nz e t fl fp w rd lw eb gd le = absurd (omega arith)
+  Fills d b s r i p = getD (s .nodes) (4 * i) 0 ≡ 0 → Inserts d b s r i p
 
-  pub inserts-last : (d : ℕ) (b : List Side) (s r : Pool) (i p k : ℕ) → k ≡ getD (s .nodes) (4 * i) 0 → k ≡ 0 → d ≡ 0 → Appends s r i p → Inserts d b s r i p
-  unfolding Inserts
-  inserts-last zero b s r i p k ek z e q l fl fp w rd lw eb gd le = append-grown zero b s r i p l fl fp (inl refl) q w rd lw
-  inserts-last (suc d) b s r i p k ek z e q t fl fp w rd lw eb gd le = absurd (omega arith)
+  pub fills-last : (d : ℕ) (b : List Side) (s r : Pool) (i p : ℕ) → d ≡ 0 → Appends s r i p → Fills d b s r i p
+  unfolding Fills Inserts
+  fills-last zero b s r i p e q z l fl fp w rd lw eb gd le = append-grown zero b s r i p l fl fp (inl refl) q w rd lw
+  fills-last (suc d) b s r i p e q z t fl fp w rd lw eb gd le = absurd (omega arith)
 
-  pub inserts-room : (d : ℕ) (b : List Side) (s r : Pool) (i p k m : ℕ) → k ≡ getD (s .nodes) (4 * i) 0 → k ≡ 0 → m ≡ getD (s .nodes) (4 * i + 3) 0 → m < cap → Appends s r i p → Inserts d b s r i p
-  unfolding Inserts
-  inserts-room zero b s r i p k m ek z em h q l fl fp w rd lw eb gd le = append-grown zero b s r i p l fl fp (inl refl) q w rd lw
-  inserts-room (suc d) b s r i p k m ek z em h q (leaf l) fl fp w rd lw eb gd le = append-grown (suc d) b s r i p l fl fp (inr (omega (arith, em, h, w .rep .4))) q w rd lw
-  inserts-room (suc d) b s r i p k m ek z em h q (branch g ts) fl fp w rd lw eb gd le = absurd (w .rep .2 (sym (w .rep .1) ∙ sym ek ∙ z))
+  pub fills-room : (d : ℕ) (b : List Side) (s r : Pool) (i p m : ℕ) → m ≡ getD (s .nodes) (4 * i + 3) 0 → m < cap → Appends s r i p → Fills d b s r i p
+  unfolding Fills Inserts
+  fills-room zero b s r i p m em h q z l fl fp w rd lw eb gd le = append-grown zero b s r i p l fl fp (inl refl) q w rd lw
+  fills-room (suc d) b s r i p m em h q z (leaf l) fl fp w rd lw eb gd le = append-grown (suc d) b s r i p l fl fp (inr (omega (arith, em, h, w .rep .4))) q w rd lw
+  fills-room (suc d) b s r i p m em h q z (branch g ts) fl fp w rd lw eb gd le = absurd (w .rep .2 (sym (w .rep .1) ∙ z))
 
   enter-any : (d : ℕ) (b : List Side) (s r : Pool) (i p g : ℕ) (ts : List (PTree d)) (fl fp n : List ℕ) → n ≡ counted (s .nodes) i → Inserts d (part b (route b (pt p .at))) (both n (s .links)) r (kid ways g (route b (pt p .at))) p
       → World (suc d) ways s i (branch g ts) fl fp → Ready (suc d) s (branch g ts) fp p → 0 < ways → 2 ^ length b ≡ ways → Good ways cap d (part b (route b (pt p .at))) (erase pt d (getD ts (route b (pt p .at)) (none d)))
       → needed cap (suc d) b (pt p) (erase pt (suc d) (branch g ts)) ≤ length fl → Grown (suc d) b s r i p (branch g ts) fl fp
   enter-any d b s r i p g ts fl fp n en go w rd lw eb gd le = enter-grown d b s i p g ts fl fp w rd eb r n en go lw gd (subst (λ (m : ℕ). m ≤ length fl) (need-branch d b p g ts) le)
 
-  pub inserts-enter : (d : ℕ) (b : List Side) (s r : Pool) (i p k c j : ℕ) (b' : List Side) (n : List ℕ) → k ≡ getD (s .nodes) (4 * i) 0 → k ≢ 0 → d ≢ 0 → c ≡ route b (pt p .at) → n ≡ counted (s .nodes) i → j ≡ kid ways k c → b' ≡ part b c
-      → Inserts (d - 1) b' (both n (s .links)) r j p → Inserts d b s r i p
-  unfolding Inserts
-  inserts-enter zero b s r i p k c j b' n ek nz dz ec en ej eb' go t fl fp w rd lw eb gd le = absurd (dz refl)
-  inserts-enter (suc d) b s r i p k c j b' n ek nz dz ec en ej eb' go (leaf l) fl fp w rd lw eb gd le = absurd (nz (ek ∙ w .rep .1))
-  inserts-enter (suc d) b s r i p k c j b' n ek nz dz ec en ej eb' go (branch g ts) fl fp w rd lw eb gd le =
-      enter-any d b s r i p g ts fl fp n en
-      (inserts-same (suc d - 1) d b' (part b (route b (pt p .at))) (both n (s .links)) r j (kid ways g (route b (pt p .at))) p (sub-one (suc d)) (eb' ∙ ap (part b) ec) (ej ∙ ap₂ (kid ways) (ek ∙ w .rep .1) ec) go)
-      w rd lw eb (kid-good d b p g ts eb gd) le
+  -- along the way: each node that is passed counts one more, and the node where it ends is filled
+  module _ (r : Pool) (p : ℕ) where
+    abbrev Ended : Pool → Spot → List ℕ → Type 0
+    Ended s e w = Fills (e .levels) (e .box) (both (countedAll (s .nodes) w) (s .links)) r (e .node) p
+
+    abbrev aim : List Float
+    aim = pt p .at
+
+    pub inserts-along : (d : ℕ) (b : List Side) (s : Pool) (i : ℕ) → Ended s (reach ways (s .nodes) aim d b i) (way ways (s .nodes) aim d b i) → Inserts d b s r i p
+    unfolding Inserts Fills reach way countedAll
+    inserts-along zero b s i go l fl fp w rd lw eb gd le = go (w .rep .1) l fl fp w rd lw eb gd le
+    inserts-along (suc d) b s i go (leaf l) fl fp w rd lw eb gd le =
+        subst (Ended s (record { node = i; box = b; levels = suc d })) (ifz-yes (getD (s .nodes) (4 * i) 0) _ _ (w .rep .1)) (subst (λ (e : Spot). Ended s e (way ways (s .nodes) aim (suc d) b i)) (ifz-yes (getD (s .nodes) (4 * i) 0) _ _ (w .rep .1)) go)
+        (w .rep .1) (leaf l) fl fp w rd lw eb gd le
+    inserts-along (suc d) b s i go (branch g ts) fl fp w rd lw eb gd le =
+        let n = counted (s .nodes) i in
+        let c = route b aim in
+        let nz : getD (s .nodes) (4 * i) 0 ≢ 0 = λ e. w .rep .2 (sym (w .rep .1) ∙ e) in
+        let er : reach ways (s .nodes) aim (suc d) b i ≡ reach ways n aim d (part b c) (kid ways g c) =
+        ifz-no (getD (s .nodes) (4 * i) 0) _ _ nz ∙ ap (λ (u : ℕ). reach ways (s .nodes) aim d (part b c) (kid ways u c)) (w .rep .1) ∙ sym (reach-same ways (s .nodes) n aim (counted-groups (s .nodes) i) d (part b c) (kid ways g c)) in
+        let ew : way ways (s .nodes) aim (suc d) b i ≡ i ∷ way ways n aim d (part b c) (kid ways g c) =
+        ifz-no (getD (s .nodes) (4 * i) 0) _ _ nz ∙ ap (λ (u : ℕ). i ∷ way ways (s .nodes) aim d (part b c) (kid ways u c)) (w .rep .1) ∙ ap (λ (l : List ℕ). i ∷ l) (sym (way-same ways (s .nodes) n aim (counted-groups (s .nodes) i) d (part b c) (kid ways g c))) in
+        enter-any d b s r i p g ts fl fp n refl
+        (inserts-along d (part b c) (both n (s .links)) (kid ways g c) (subst (Ended s (reach ways n aim d (part b c) (kid ways g c))) ew (subst (λ (e : Spot). Ended s e (way ways (s .nodes) aim (suc d) b i)) er go)))
+        w rd lw eb (kid-good d b p g ts eb gd) le
 
   leaf-good : (d : ℕ) (b : List Side) (l : List ℕ) → Good ways cap (suc d) b (erase pt (suc d) (leaf l)) → length l ≤ cap
   unfolding erase
@@ -318,16 +330,28 @@ module _ (ways cap : ℕ) (pt : ℕ → Point) where
       (subst (Good ways cap d (part b (route b (pt p .at)))) (sym (kid-erase d b s s1 i p g ts l fl fp w rd eb lw w1 f1 tr)) (good-bag ways cap d (part b (route b (pt p .at))) (keep (goes b (route b (pt p .at))) (map pt l)) (omega (arith, h, keep-length (goes b (route b (pt p .at))) (map pt l), length-map l pt))))
       (omega (arith, le, need-split d b s s1 i p g ts l fl fp w rd eb lw w1 f1 tr h k, need-branch d b p g (flats d (dealt ways ts l)))))
 
+  -- the children of a node that was just divided are undivided
+  kid-flat : (d : ℕ) (n x : List ℕ) (i : ℕ) (l : List ℕ) → Rep d ways n x i (flat d l) → getD n (4 * i) 0 ≡ 0
+  kid-flat zero n x i l q = q .1
+  kid-flat (suc d) n x i l q = q .1
+
+  fills-same : (d d' : ℕ) (b b' : List Side) (s r : Pool) (j j' p : ℕ) → d ≡ d' → b ≡ b' → j ≡ j' → Fills d b s r j p → Fills d' b' s r j' p
+  fills-same d d' b b' s r j j' p ed eb ej q = subst (λ (u : ℕ). Fills d' b' s r u p) ej (subst (λ (u : List Side). Fills d' u s r j p) eb (subst (λ (u : ℕ). Fills u b s r j p) ed q))
+
   -- a full list is split first, then its place goes on into the child
-  pub inserts-split : (d : ℕ) (b : List Side) (s s1 r : Pool) (i p k m g c j : ℕ) (b' : List Side) (n ts : List ℕ) → k ≡ getD (s .nodes) (4 * i) 0 → k ≡ 0 → m ≡ getD (s .nodes) (4 * i + 3) 0 → cap ≤ m → d ≢ 0
+  pub fills-split : (d : ℕ) (b : List Side) (s s1 r : Pool) (i p m g c j : ℕ) (b' : List Side) (n ts : List ℕ) → m ≡ getD (s .nodes) (4 * i + 3) 0 → cap ≤ m → d ≢ 0
       → Splits ways ts s s1 i g → ((l : List ℕ) → RepLeaf (s .nodes) (s .links) i l → ((q : ℕ) → occ q l ≤ 1) → Turns b ts l) → c ≡ route b (pt p .at) → n ≡ counted (s1 .nodes) i → j ≡ kid ways g c → b' ≡ part b c
-      → Inserts (d - 1) b' (both n (s1 .links)) r j p → Inserts d b s r i p
-  unfolding Inserts Splits
-  inserts-split zero b s s1 r i p k m g c j b' n ts ek z em h dz sp tr ec en ej eb' go t fl fp w rd lw eb gd le = absurd (dz refl)
-  inserts-split (suc d) b s s1 r i p k m g c j b' n ts ek z em h dz sp tr ec en ej eb' go (branch u us) fl fp w rd lw eb gd le = absurd (w .rep .2 (sym (w .rep .1) ∙ sym ek ∙ z))
-  inserts-split (suc d) b s s1 r i p k m g c j b' n ts ek z em h dz sp tr ec en ej eb' go (leaf l) [] fp w rd lw eb gd le = absurd (omega (arith, le, need-full d b p l (leaf-good d b l gd) (omega (arith, em, h, w .rep .4))))
-  inserts-split (suc d) b s s1 r i p k m g c j b' n ts ek z em h dz sp tr ec en ej eb' go (leaf l) (f ∷ fl) fp w rd lw eb gd le =
+      → Fills (d - 1) b' (both n (s1 .links)) r j p → Fills d b s r i p
+  unfolding Fills Inserts Splits
+  fills-split zero b s s1 r i p m g c j b' n ts em h dz sp tr ec en ej eb' go z t fl fp w rd lw eb gd le = absurd (dz refl)
+  fills-split (suc d) b s s1 r i p m g c j b' n ts em h dz sp tr ec en ej eb' go z (branch u us) fl fp w rd lw eb gd le = absurd (w .rep .2 (sym (w .rep .1) ∙ z))
+  fills-split (suc d) b s s1 r i p m g c j b' n ts em h dz sp tr ec en ej eb' go z (leaf l) [] fp w rd lw eb gd le = absurd (omega (arith, le, need-full d b p l (leaf-good d b l gd) (omega (arith, em, h, w .rep .4))))
+  fills-split (suc d) b s s1 r i p m g c j b' n ts em h dz sp tr ec en ej eb' go z (leaf l) (f ∷ fl) fp w rd lw eb gd le =
       let q = sp d l f fl fp lw w (rd .few) in
+      let a = route b (pt p .at) in
+      let la : a < ways = in-range ways cap b (pt p) ways eb refl in
+      let flat-kid = subst (Rep d ways (s1 .nodes) (s1 .links) (kid ways f a)) (flats-at d (dealt ways ts l) a) (q .1 .rep .5 a la) in
       split-any d b s s1 r i p f ts l fl fp n w rd eb lw (q .1) (q .2) (tr l (w .rep) (λ v. omega (arith, w .places v))) en
-      (inserts-same (suc d - 1) d b' (part b (route b (pt p .at))) (both n (s1 .links)) r j (kid ways f (route b (pt p .at))) p (sub-one (suc d)) (eb' ∙ ap (part b) ec) (ej ∙ ap₂ (kid ways) (q .0) ec) go)
+      (fills-same (suc d - 1) d b' (part b a) (both n (s1 .links)) r j (kid ways f a) p (sub-one (suc d)) (eb' ∙ ap (part b) ec) (ej ∙ ap₂ (kid ways) (q .0) ec) go
+      (ap (λ (u : List ℕ). getD u (4 * kid ways f a) 0) en ∙ counted-groups (s1 .nodes) i (kid ways f a) ∙ kid-flat d (s1 .nodes) (s1 .links) (kid ways f a) (getD (dealt ways ts l) a []) flat-kid))
       (leaf-good d b l gd) (omega (arith, em, h, w .rep .4)) le

@@ -19,3 +19,4 @@ pub mod Soundness
 pub mod Tables
 pub mod Turns
 pub mod Walks
+pub mod Ways

@@ -9,7 +9,7 @@ use spart::opened::Opened;
 pub const MOST_POINTS: usize = 512;
 
 /// Nodes that a tree may have, by its number of axes.
-pub fn most_nodes(axes: usize) -> usize {
+pub const fn most_nodes(axes: usize) -> usize {
     if axes == 2 {
         341
     } else {

@@ -13,13 +13,14 @@ use std::fmt::Debug;
 /// The types of the Rust for one number of axes.
 pub trait Space: 'static {
     const AXES: usize;
+    const NAME: &'static str;
     /// The word that begins a tree.
     const WORD: &'static str;
     type Volume: BoundingVolume + HasMinDistance<Self::Item>;
     type Item: Clone + PartialEq;
     type Metric: DistanceMetric<Self::Item>;
     /// The tree from the unchanged module.
-    type Tree: SpatialIndex<Item = Self::Item, Volume = Self::Volume> + Debug;
+    type Tree: SpatialIndex<Item = Self::Item, Volume = Self::Volume> + Clone + Debug;
     /// The same tree from the opened module.
     type Shape: SpatialIndex<Item = Self::Item, Volume = Self::Volume>
         + Opened<Volume = Self::Volume, Point = Self::Item>
@@ -32,8 +33,11 @@ pub trait Space: 'static {
     fn sides(volume: &Self::Volume) -> Vec<f64>;
     fn item(at: &[f64], payload: u32) -> Self::Item;
     fn point(item: &Self::Item) -> Point;
+    fn payload(item: &Self::Item) -> u32;
     /// The inherent `contains` of the box.
     fn volume_contains(volume: &Self::Volume, item: &Self::Item) -> bool;
+    /// The inherent `is_empty` of the tree.
+    fn tree_is_empty(tree: &Self::Tree) -> bool;
 }
 
 macro_rules! space {
@@ -43,6 +47,7 @@ macro_rules! space {
 
         impl Space for $space {
             const AXES: usize = $axes;
+            const NAME: &'static str = stringify!($module);
             const WORD: &'static str = $word;
             type Volume = $volume;
             type Item = $point<u32>;
@@ -66,10 +71,16 @@ macro_rules! space {
                 $point { $($axis: at[$a],)* data: Some(payload) }
             }
             fn point(item: &Self::Item) -> Point {
-                Point { at: vec![$(item.$axis),*], payload: item.data.unwrap_or(0) }
+                Point { at: vec![$(item.$axis),*], payload: Self::payload(item) }
+            }
+            fn payload(item: &Self::Item) -> u32 {
+                item.data.unwrap_or(0)
             }
             fn volume_contains(volume: &$volume, item: &Self::Item) -> bool {
                 volume.contains(item)
+            }
+            fn tree_is_empty(tree: &Self::Tree) -> bool {
+                tree.is_empty()
             }
         }
     };

@@ -35,8 +35,8 @@ child-index-requires c κs = search needs
 cast-c : tie.Need-cast-c Inv-loop μ-loop
 cast-c c = search needs
 
-turn-to-requires : tie.Need-turn-to-requires Inv-loop μ-loop
-turn-to-requires c κs = search needs
+note-turn-requires : tie.Need-note-turn-requires Inv-loop μ-loop
+note-turn-requires c κs = search needs
 
 next-requires : tie.Need-next-requires Inv-loop μ-loop
 next-requires c κs = search needs
@@ -48,7 +48,7 @@ loop-less : tie.Need-loop-less Inv-loop μ-loop
 loop-less c = search needs
 
 loop-again : tie.Need-loop-again Inv-loop μ-loop
-loop-again c = turning-step _ _ _ _ _ _ _ _ _ _ _ _ _ _ (c .before .before .before .before .before .before .before .before .before .loop .inv) (c .before .before .before .before .before .before .before .before .loop-test .taken) (c .before .before .before .before .before .before .before .if1 .left) (small-route _ _ 4 _ refl (c .before .before .before .before .before .child-index .ensures) ∙ ap (route (sides2 (c .before .before .before .before .before .before .before .before .before .before .before .before .before .args .bounds))) (c .before .before .before .before .before .before .point-at .ensures)) (c .before .before .before .turn-to .kept .0) (c .before .before .before .turn-to .ensures) (c .next .ensures)
+loop-again c = turning-step _ _ _ _ _ _ _ _ _ _ _ _ _ _ (c .before .before .before .before .before .before .before .before .before .loop .inv) (c .before .before .before .before .before .before .before .before .loop-test .taken) (c .before .before .before .before .before .before .before .if1 .left) (small-route _ _ 4 _ refl (c .before .before .before .before .before .child-index .ensures) ∙ ap (route (sides2 (c .before .before .before .before .before .before .before .before .before .before .before .before .before .args .bounds))) (c .before .before .before .before .before .before .point-at .ensures)) (c .before .before .before .note-turn .kept .0) (c .before .before .before .note-turn .ensures) (c .next .ensures)
 
 same-length-2 : tie.Need-same-length-2 Inv-loop μ-loop
 same-length-2 c = c .before .loop .inv .same
@@ -68,7 +68,7 @@ turns-of-spec =
     point-at-requires
     child-index-requires
     cast-c
-    turn-to-requires
+    note-turn-requires
     next-requires
     sub-left
     loop-less

@@ -1,8 +1,10 @@
 use mathlib.Core.Path.{refl, subst, sym}
+use native.Mathlib.Omega.{arith}
 use lib.Dec.{T}
 use borrow.Author.Tests.{not-false, not-true}
 use Rattle.model.specs.Calls.{quadtree}
 use Rattle.trees.proofs.Changes.{inserts-crowded, inserts-done, inserts-full, inserts-outside}
+use Rattle.trees.proofs.Ways.{path-is}
 use borrow.Author.Needs.{needs}
 use Rattle.quadtree_changes.proofs.insert.insert.Statement.{statement}
 use Rattle.quadtree_changes.proofs.insert.insert.Tie as tie
@@ -28,6 +30,12 @@ returns-2 c = inserts-full quadtree 85 refl _ _ _ _ (c .before .before .before .
 capacity-requires : tie.Need-capacity-requires
 capacity-requires c κs = search needs
 
+slice-aggregate-leaf-of : tie.Need-slice-aggregate-leaf-of
+slice-aggregate-leaf-of c = search needs
+
+leaf-of-requires : tie.Need-leaf-of-requires
+leaf-of-requires c κs = search needs
+
 has-room-requires : tie.Need-has-room-requires
 has-room-requires c κs = search needs
 
@@ -41,7 +49,10 @@ same-length-4 : tie.Need-same-length-4
 same-length-4 c = search needs
 
 returns-3 : tie.Need-returns-3
-returns-3 c = inserts-crowded quadtree 85 refl _ _ _ _ (c .before .before .before .before .before .before .before .before .before .before .before .boundary .ensures) (c .before .before .before .before .before .before .before .before .before .before .contains .ensures) (not-false (c .before .before .before .before .before .before .before .before .before .before .contains .result) (c .before .before .before .before .before .before .before .before .before .if1 .left)) _ (c .before .before .before .before .before .before .before .count .ensures) (c .before .before .before .before .before .before .if2 .left) _ (c .before .before .before .before .before .capacity .ensures) _ (c .before .has-room .ensures) (not-true (c .before .has-room .result) (c .if3 .taken))
+returns-3 c = inserts-crowded quadtree 85 refl _ _ _ _ (c .before .before .before .before .before .before .before .before .before .before .before .before .before .before .before .before .boundary .ensures) (c .before .before .before .before .before .before .before .before .before .before .before .before .before .before .before .contains .ensures) (not-false (c .before .before .before .before .before .before .before .before .before .before .before .before .before .before .before .contains .result) (c .before .before .before .before .before .before .before .before .before .before .before .before .before .before .if1 .left)) _ (c .before .before .before .before .before .before .before .before .before .before .before .before .count .ensures) (c .before .before .before .before .before .before .before .before .before .before .before .if2 .left) _ (c .before .before .before .before .before .before .before .before .before .before .capacity .ensures) _ (c .before .has-room .ensures _ (c .before .before .before .before .before .before .before .leaf-of .ensures .0)) (not-true (c .before .has-room .result) (c .if3 .taken))
+
+slice-aggregate-store : tie.Need-slice-aggregate-store
+slice-aggregate-store c = search needs
 
 store-requires : tie.Need-store-requires
 store-requires c κs = search needs
@@ -56,7 +67,7 @@ same-length-7 : tie.Need-same-length-7
 same-length-7 c = search needs
 
 returns-4 : tie.Need-returns-4
-returns-4 c = inserts-done quadtree 85 refl _ _ _ _ (c .before .before .before .before .before .before .before .before .before .before .before .before .before .before .before .before .before .before .before .before .before .boundary .ensures) (c .before .before .before .before .before .before .before .before .before .before .before .before .before .before .before .before .before .before .before .before .contains .ensures) (not-false (c .before .before .before .before .before .before .before .before .before .before .before .before .before .before .before .before .before .before .before .before .contains .result) (c .before .before .before .before .before .before .before .before .before .before .before .before .before .before .before .before .before .before .before .if1 .left)) _ (c .before .before .before .before .before .before .before .before .before .before .before .before .before .before .before .before .before .count .ensures) (c .before .before .before .before .before .before .before .before .before .before .before .before .before .before .before .before .if2 .left) _ (c .before .before .before .before .before .before .before .before .before .before .before .before .before .before .before .capacity .ensures) _ (c .before .before .before .before .before .before .before .before .before .before .before .has-room .ensures) _ _ _ (not-false (c .before .before .before .before .before .before .before .before .before .before .before .has-room .result) (c .before .before .before .before .before .before .before .before .before .before .if3 .left)) (c .before .before .before .before .before .before .store .kept .0) (c .before .before .before .before .before .before .store .kept .1 .0) (c .before .before .before .before .before .before .store .kept .1 .1 .0) (c .before .before .before .before .before .before .store .ensures) (subst T (sym (c .before .before .before .before .before .before .before .before .before .before .before .before .before .before .before .before .before .before .before .before .before .before .before .before .before .before .good .1 .1 .1 .1 .0 .1)) tt, (subst T (sym (c .before .before .before .before .before .before .before .before .before .before .before .before .before .before .before .before .before .before .before .before .before .before .before .before .before .before .good .1 .1 .1 .1 .1 .0 .1)) tt, tt))
+returns-4 c = inserts-done quadtree 85 refl _ _ _ _ (c .before .before .before .before .before .before .before .before .before .before .before .before .before .before .before .before .before .before .before .before .before .before .before .before .before .before .before .boundary .ensures) (c .before .before .before .before .before .before .before .before .before .before .before .before .before .before .before .before .before .before .before .before .before .before .before .before .before .before .contains .ensures) (not-false (c .before .before .before .before .before .before .before .before .before .before .before .before .before .before .before .before .before .before .before .before .before .before .before .before .before .before .contains .result) (c .before .before .before .before .before .before .before .before .before .before .before .before .before .before .before .before .before .before .before .before .before .before .before .before .before .if1 .left)) _ (c .before .before .before .before .before .before .before .before .before .before .before .before .before .before .before .before .before .before .before .before .before .before .before .count .ensures) (c .before .before .before .before .before .before .before .before .before .before .before .before .before .before .before .before .before .before .before .before .before .before .if2 .left) _ (c .before .before .before .before .before .before .before .before .before .before .before .before .before .before .before .before .before .before .before .before .before .capacity .ensures) _ (c .before .before .before .before .before .before .before .before .before .before .before .before .has-room .ensures _ (c .before .before .before .before .before .before .before .before .before .before .before .before .before .before .before .before .before .before .leaf-of .ensures .0)) _ _ _ (not-false (c .before .before .before .before .before .before .before .before .before .before .before .before .has-room .result) (c .before .before .before .before .before .before .before .before .before .before .before .if3 .left)) (c .before .before .before .before .before .before .store .kept .0) (c .before .before .before .before .before .before .store .kept .1 .0) (c .before .before .before .before .before .before .store .kept .1 .1 .0) (c .before .before .before .before .before .before .store .ensures _ (c .before .before .before .before .before .before .before .before .before .before .before .before .before .before .before .before .before .before .leaf-of .ensures .0) (path-is _ _ _ _ _ _ _ _ _ (omega arith) (c .before .before .before .before .before .before .before .before .before .before .before .before .before .before .before .before .before .before .leaf-of .ensures .1))) (subst T (sym (c .before .before .before .before .before .before .before .before .before .before .before .before .before .before .before .before .before .before .before .before .before .before .before .before .before .before .before .before .before .before .before .before .good .1 .1 .1 .1 .0 .1)) tt, (subst T (sym (c .before .before .before .before .before .before .before .before .before .before .before .before .before .before .before .before .before .before .before .before .before .before .before .before .before .before .before .before .before .before .before .before .good .1 .1 .1 .1 .1 .0 .1)) tt, tt))
 
 pub insert-spec : {M : Type 1} → statement M
 insert-spec =
@@ -69,11 +80,14 @@ insert-spec =
     same-length
     returns-2
     capacity-requires
+    slice-aggregate-leaf-of
+    leaf-of-requires
     has-room-requires
     same-length-2
     same-length-3
     same-length-4
     returns-3
+    slice-aggregate-store
     store-requires
     same-length-5
     same-length-6

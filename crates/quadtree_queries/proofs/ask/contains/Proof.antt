@@ -20,6 +20,9 @@ contains-requires c κs = search needs
 returns : tie.Need-returns
 returns c = contains-outside quadtree (pieces ((c .before .before .before .before .before .before .before .args .head .now)) ((c .before .before .before .before .before .before .before .args .nodes .now)) ((c .before .before .before .before .before .before .before .args .links .now)) ((c .before .before .before .before .before .before .before .args .points .now))) (record { at = (c .before .before .before .before .before .before .before .args .x) ∷ (c .before .before .before .before .before .before .before .args .y) ∷ []; payload = (c .before .before .before .before .before .before .before .args .mark) }) _ (c .before .before .boundary .ensures) (said-no _ _ (c .before .contains .ensures) (c .if1 .taken))
 
+slice-aggregate-leaf-of : tie.Need-slice-aggregate-leaf-of
+slice-aggregate-leaf-of c = search needs
+
 leaf-of-requires : tie.Need-leaf-of-requires
 leaf-of-requires c κs = search needs
 
@@ -30,10 +33,10 @@ find-in-requires : tie.Need-find-in-requires
 find-in-requires c κs = search needs
 
 returns-2 : tie.Need-returns-2
-returns-2 c = contains-no quadtree (pieces ((c .before .before .before .before .before .before .before .before .before .before .before .before .args .head .now)) ((c .before .before .before .before .before .before .before .before .before .before .before .before .args .nodes .now)) ((c .before .before .before .before .before .before .before .before .before .before .before .before .args .links .now)) ((c .before .before .before .before .before .before .before .before .before .before .before .before .args .points .now))) (record { at = (c .before .before .before .before .before .before .before .before .before .before .before .before .args .x) ∷ (c .before .before .before .before .before .before .before .before .before .before .before .before .args .y) ∷ []; payload = (c .before .before .before .before .before .before .before .before .before .before .before .before .args .mark) }) _ (c .before .before .before .before .before .before .before .boundary .ensures) (record { node = (c .before .before .before .before .leaf-of .result .node); box = sides2 ((c .before .before .before .before .leaf-of .result .bounds)); levels = (c .before .before .before .before .leaf-of .result .levels) }) _ (record { place = (c .before .before .find-in .result .place); before = (c .before .before .find-in .result .before) }) (subst T (sym (c .before .before .before .before .before .before .before .before .before .before .before .before .good .1 .1 .1 .1 .0 .1)) tt, (subst T (sym (c .before .before .before .before .before .before .before .before .before .before .before .before .good .1 .1 .1 .1 .1 .0 .1)) tt, tt)) (said-yes _ _ (c .before .before .before .before .before .before .contains .ensures) (c .before .before .before .before .before .if1 .left)) (c .before .before .before .before .leaf-of .ensures) (c .before .before .before .first .ensures) (c .before .before .find-in .ensures) (c .if2 .taken)
+returns-2 c = contains-no quadtree (pieces ((c .before .before .before .before .before .before .before .before .before .before .before .before .before .before .args .head .now)) ((c .before .before .before .before .before .before .before .before .before .before .before .before .before .before .args .nodes .now)) ((c .before .before .before .before .before .before .before .before .before .before .before .before .before .before .args .links .now)) ((c .before .before .before .before .before .before .before .before .before .before .before .before .before .before .args .points .now))) (record { at = (c .before .before .before .before .before .before .before .before .before .before .before .before .before .before .args .x) ∷ (c .before .before .before .before .before .before .before .before .before .before .before .before .before .before .args .y) ∷ []; payload = (c .before .before .before .before .before .before .before .before .before .before .before .before .before .before .args .mark) }) _ (c .before .before .before .before .before .before .before .before .before .boundary .ensures) (record { node = (c .before .before .before .before .before .leaf-of .result .node); box = sides2 ((c .before .before .before .before .before .leaf-of .result .bounds)); levels = (c .before .before .before .before .before .leaf-of .result .levels) }) _ (record { place = (c .before .before .find-in .result .place); before = (c .before .before .find-in .result .before) }) (subst T (sym (c .before .before .before .before .before .before .before .before .before .before .before .before .before .before .good .1 .1 .1 .1 .0 .1)) tt, (subst T (sym (c .before .before .before .before .before .before .before .before .before .before .before .before .before .before .good .1 .1 .1 .1 .1 .0 .1)) tt, tt)) (said-yes _ _ (c .before .before .before .before .before .before .before .before .contains .ensures) (c .before .before .before .before .before .before .before .if1 .left)) (c .before .before .before .before .before .leaf-of .ensures .0) (c .before .before .before .first .ensures) (c .before .before .find-in .ensures) (c .if2 .taken)
 
 returns-3 : tie.Need-returns-3
-returns-3 c = contains-yes quadtree (pieces ((c .before .before .before .before .before .before .before .before .before .before .before .before .args .head .now)) ((c .before .before .before .before .before .before .before .before .before .before .before .before .args .nodes .now)) ((c .before .before .before .before .before .before .before .before .before .before .before .before .args .links .now)) ((c .before .before .before .before .before .before .before .before .before .before .before .before .args .points .now))) (record { at = (c .before .before .before .before .before .before .before .before .before .before .before .before .args .x) ∷ (c .before .before .before .before .before .before .before .before .before .before .before .before .args .y) ∷ []; payload = (c .before .before .before .before .before .before .before .before .before .before .before .before .args .mark) }) _ (c .before .before .before .before .before .before .before .boundary .ensures) (record { node = (c .before .before .before .before .leaf-of .result .node); box = sides2 ((c .before .before .before .before .leaf-of .result .bounds)); levels = (c .before .before .before .before .leaf-of .result .levels) }) _ (record { place = (c .before .before .find-in .result .place); before = (c .before .before .find-in .result .before) }) (subst T (sym (c .before .before .before .before .before .before .before .before .before .before .before .before .good .1 .1 .1 .1 .0 .1)) tt, (subst T (sym (c .before .before .before .before .before .before .before .before .before .before .before .before .good .1 .1 .1 .1 .1 .0 .1)) tt, tt)) (said-yes _ _ (c .before .before .before .before .before .before .contains .ensures) (c .before .before .before .before .before .if1 .left)) (c .before .before .before .before .leaf-of .ensures) (c .before .before .before .first .ensures) (c .before .before .find-in .ensures) (c .if2 .left)
+returns-3 c = contains-yes quadtree (pieces ((c .before .before .before .before .before .before .before .before .before .before .before .before .before .before .args .head .now)) ((c .before .before .before .before .before .before .before .before .before .before .before .before .before .before .args .nodes .now)) ((c .before .before .before .before .before .before .before .before .before .before .before .before .before .before .args .links .now)) ((c .before .before .before .before .before .before .before .before .before .before .before .before .before .before .args .points .now))) (record { at = (c .before .before .before .before .before .before .before .before .before .before .before .before .before .before .args .x) ∷ (c .before .before .before .before .before .before .before .before .before .before .before .before .before .before .args .y) ∷ []; payload = (c .before .before .before .before .before .before .before .before .before .before .before .before .before .before .args .mark) }) _ (c .before .before .before .before .before .before .before .before .before .boundary .ensures) (record { node = (c .before .before .before .before .before .leaf-of .result .node); box = sides2 ((c .before .before .before .before .before .leaf-of .result .bounds)); levels = (c .before .before .before .before .before .leaf-of .result .levels) }) _ (record { place = (c .before .before .find-in .result .place); before = (c .before .before .find-in .result .before) }) (subst T (sym (c .before .before .before .before .before .before .before .before .before .before .before .before .before .before .good .1 .1 .1 .1 .0 .1)) tt, (subst T (sym (c .before .before .before .before .before .before .before .before .before .before .before .before .before .before .good .1 .1 .1 .1 .1 .0 .1)) tt, tt)) (said-yes _ _ (c .before .before .before .before .before .before .before .before .contains .ensures) (c .before .before .before .before .before .before .before .if1 .left)) (c .before .before .before .before .before .leaf-of .ensures .0) (c .before .before .before .first .ensures) (c .before .before .find-in .ensures) (c .if2 .left)
 
 pub contains-spec : {M : Type 1} → statement M
 contains-spec =
@@ -42,6 +45,7 @@ contains-spec =
     boundary-requires
     contains-requires
     returns
+    slice-aggregate-leaf-of
     leaf-of-requires
     first-requires
     find-in-requires

@@ -1,7 +1,0 @@
-//! What the comparisons of the quadtree share: lent memory, what its bytes mean, and when they are sound.
-
-pub mod layout;
-pub mod memory;
-pub mod renumber;
-pub mod sound;
-pub mod watch;

@@ -1,0 +1,169 @@
+//! The Rust's tree with document 01's Room on top of it. The unchanged tree gives every answer; the opened
+//! one, fed the same calls, shows its nodes.
+
+use crate::kind::{Kind, SpaceOf};
+use oracle::calls::{DONE, NODES_FULL, NOT_HELD, OUTSIDE, POINTS_FULL};
+use oracle::room::{most_nodes, MOST_POINTS};
+use oracle::space::Space;
+use ralikudo::generic::{Library, Point, Volume};
+use spart::index::SpatialIndex;
+use spart::opened::Opened;
+
+/// An insert divides a node on each of 32 levels at most.
+const fn most_new(axes: usize) -> usize {
+    32 << axes
+}
+
+type Item<const N: usize> = <SpaceOf<N> as Space>::Item;
+
+pub struct Rust<const N: usize>
+where
+    Library: Kind<N>,
+{
+    boundary: <SpaceOf<N> as Space>::Volume,
+    tree: <SpaceOf<N> as Space>::Tree,
+    shape: <SpaceOf<N> as Space>::Shape,
+    nodes: usize,
+}
+
+/// A point of the Rust's as ours.
+pub fn point<const N: usize>(item: &Item<N>) -> Point<N>
+where
+    Library: Kind<N>,
+{
+    let oracle::calls::Point { at, payload } = SpaceOf::<N>::point(item);
+    Point { at: at.try_into().expect("as many as there are axes"), payload }
+}
+
+impl<const N: usize> Rust<N>
+where
+    Library: Kind<N>,
+{
+    fn item(p: &Point<N>) -> Item<N> {
+        SpaceOf::<N>::item(&p.at, p.payload)
+    }
+
+    fn centre(at: [f64; N]) -> Item<N> {
+        SpaceOf::<N>::item(&at, 0)
+    }
+
+    fn volume(v: &Volume<N>) -> <SpaceOf<N> as Space>::Volume {
+        SpaceOf::<N>::volume(&[v.corner, v.extent].concat())
+    }
+
+    fn answer(found: Vec<&Item<N>>) -> Vec<Point<N>> {
+        found.into_iter().map(point).collect()
+    }
+
+    fn inside(&self, item: &Item<N>) -> bool {
+        SpaceOf::<N>::volume_contains(&self.boundary, item)
+    }
+
+    /// A tree, or nothing where the Rust refuses the capacity. The boundary is acceptable.
+    pub fn new(boundary: &Volume<N>, capacity: u32) -> Option<Self> {
+        let boundary = Self::volume(boundary);
+        let tree = SpaceOf::<N>::tree(&boundary, capacity as usize).ok()?;
+        let shape = SpaceOf::<N>::shape(&boundary, capacity as usize).ok()?;
+        Some(Rust { boundary, tree, shape, nodes: 1 })
+    }
+
+    pub fn shape(&self) -> &<SpaceOf<N> as Space>::Shape {
+        &self.shape
+    }
+
+    pub fn unchanged(&self) -> &<SpaceOf<N> as Space>::Tree {
+        &self.tree
+    }
+
+    pub fn nodes(&self) -> usize {
+        self.nodes
+    }
+
+    /// "insert 8, 1, 5, 6": where nodes may run short a clone tells how many there would be.
+    pub fn insert(&mut self, p: &Point<N>) -> u8 {
+        let item = Self::item(p);
+        if !self.inside(&item) {
+            return OUTSIDE;
+        }
+        if self.tree.len() == MOST_POINTS {
+            return POINTS_FULL;
+        }
+        if self.nodes + most_new(N) > most_nodes(N) {
+            let mut grown = self.shape.clone();
+            stored(grown.insert(item.clone()));
+            if grown.nodes() > most_nodes(N) {
+                return NODES_FULL;
+            }
+        }
+        stored(self.shape.insert(item.clone()));
+        stored(self.tree.insert(item));
+        self.nodes = self.shape.nodes();
+        assert!(self.nodes <= most_nodes(N), "an insert took more nodes than thought");
+        DONE
+    }
+
+    /// How many are stored, and what stopped it.
+    pub fn insert_bulk(&mut self, points: &[Point<N>]) -> (u8, u32) {
+        let mut stored = 0;
+        for p in points {
+            match self.insert(p) {
+                DONE => stored += 1,
+                OUTSIDE => {}
+                stopped => return (stopped, stored),
+            }
+        }
+        (DONE, stored)
+    }
+
+    pub fn delete(&mut self, p: &Point<N>) -> u8 {
+        let item = Self::item(p);
+        if !self.tree.delete(&item) {
+            return if self.inside(&item) { NOT_HELD } else { OUTSIDE };
+        }
+        self.shape.delete(&item);
+        self.nodes = self.shape.nodes();
+        DONE
+    }
+
+    pub fn clear(&mut self) {
+        self.tree.clear();
+        self.shape.clear();
+        self.nodes = 1;
+    }
+
+    pub fn contains(&self, p: &Point<N>) -> bool {
+        self.tree.contains(&Self::item(p))
+    }
+
+    pub fn len(&self) -> usize {
+        self.tree.len()
+    }
+
+    pub fn is_empty(&self) -> bool {
+        SpaceOf::<N>::tree_is_empty(&self.tree)
+    }
+
+    pub fn range_search(&self, at: [f64; N], radius: f64) -> Vec<Point<N>> {
+        Self::answer(self.tree.range_search::<<SpaceOf<N> as Space>::Metric>(&Self::centre(at), radius))
+    }
+
+    pub fn range_search_bbox(&self, query: &Volume<N>) -> Vec<Point<N>> {
+        Self::answer(self.tree.range_search_bbox(&Self::volume(query)))
+    }
+
+    pub fn knn_search(&self, at: [f64; N], k: u32) -> Vec<Point<N>> {
+        Self::answer(self.tree.knn_search::<<SpaceOf<N> as Space>::Metric>(&Self::centre(at), k as usize))
+    }
+
+    /// All points held, in the order of the tree.
+    pub fn held(&self) -> Vec<Point<N>> {
+        let mut held = Vec::new();
+        self.shape.look(&mut |node| held.extend(node.points.iter().map(point)));
+        held
+    }
+}
+
+/// The Rust stores every point that is inside.
+fn stored<E>(insert: Result<bool, E>) {
+    assert!(matches!(insert, Ok(true)), "a point that is inside is stored");
+}
