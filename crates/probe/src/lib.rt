@@ -1,4 +1,5 @@
 // C entry points for the oracle's runs: each hands its numbers to the function that is compared with the Rust.
+pub mod oct;
 pub mod quad;
 
 ghost use mathlib.Core.Path.{_≡_};

@@ -8,7 +8,6 @@ ghost use Rattle.trees.specs.Points.{pointAt};
 ghost use Rattle.trees.specs.Pieces.{pieces, Sane, Decides};
 ghost use Rattle.trees.proofs.Areas.{bounding, lows, tops, lies};
 ghost use Rattle.trees.proofs.Checks.{Checks, LeafChecks, ListChecks};
-use geometry::axis::midplane;
 use geometry::plane::Point2D;
 use geometry::plane::Rectangle;
 use pieces::capacity;
@@ -33,10 +32,8 @@ use sound::top_half;
 fn low_part(bounds: Rectangle, low: Point2D, c: u8) -> Point2D
     ensures { λ r. ⌜ place2 r ≡ lows (sides2 bounds) (place2 low) c ⌝ }
 {
-    let mx = midplane(bounds.x, bounds.width);
-    let my = midplane(bounds.y, bounds.height);
-    let x = low_half(c % 2 == 1, mx, low.x);
-    let y = low_half(c / 2 % 2 == 1, my, low.y);
+    let x = low_half(c % 2 == 1, bounds.x, bounds.width, low.x);
+    let y = low_half(c / 2 % 2 == 1, bounds.y, bounds.height, low.y);
     Point2D { x, y }
 }
 
@@ -44,10 +41,8 @@ fn low_part(bounds: Rectangle, low: Point2D, c: u8) -> Point2D
 fn top_part(bounds: Rectangle, top: Point2D, c: u8) -> Point2D
     ensures { λ r. ⌜ place2 r ≡ tops (sides2 bounds) (place2 top) c ⌝ }
 {
-    let mx = midplane(bounds.x, bounds.width);
-    let my = midplane(bounds.y, bounds.height);
-    let x = top_half(c % 2 == 1, mx, top.x);
-    let y = top_half(c / 2 % 2 == 1, my, top.y);
+    let x = top_half(c % 2 == 1, bounds.x, bounds.width, top.x);
+    let y = top_half(c / 2 % 2 == 1, bounds.y, bounds.height, top.y);
     Point2D { x, y }
 }
 

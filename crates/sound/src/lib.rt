@@ -7,11 +7,13 @@ ghost use lib.ListN.{length, getD};
 ghost use lib.Ieee.{le, nan};
 ghost use Rattle.floats.specs.Values.{plusZero};
 ghost use Rattle.words.specs.Words.{words};
-ghost use Rattle.model.specs.Boxes.{bounded};
+ghost use Rattle.model.specs.Boxes.{bounded, mid};
+ghost use Rattle.geometry.specs.Sides.{side};
 ghost use Rattle.pool.specs.Writes.{kid};
 ghost use Rattle.trees.proofs.Areas.{higher, lower};
 ghost use Rattle.trees.proofs.Checks.{counts};
 ghost use Rattle.trees.proofs.Marks.{Claims, AllMet, Frees, Rest};
+use geometry::axis::midplane;
 use pool::child;
 use pool::count;
 use pool::group;
@@ -125,27 +127,33 @@ pub fn no_top() -> f64
 }
 
 // The low bound of a half: on the high side the midplane, where it is higher.
-pub fn low_half(high: bool, mid: f64, low: f64) -> f64
-    ensures { λ r. ⌜ r ≡ cond high (higher low mid) low ⌝ }
+pub fn low_half(high: bool, corner: f64, extent: f64, low: f64) -> f64
+    ensures { λ r. ⌜ r ≡ cond high (higher low (mid (side corner extent))) low ⌝ }
 {
     if !high {
         return low;
     }
-    if (low <= mid) | (mid != mid) {
-        mid
+    let plane = midplane(corner, extent);
+    if (low <= plane) | (plane != plane) {
+        plane
     } else {
         low
     }
 }
 
 // The top bound of a half: on the low side the midplane, where it is lower. A top that is no number bounds nothing.
-pub fn top_half(high: bool, mid: f64, top: f64) -> f64
-    ensures { λ r. ⌜ r ≡ cond high top (lower top mid) ⌝ }
+pub fn top_half(high: bool, corner: f64, extent: f64, top: f64) -> f64
+    ensures { λ r. ⌜ r ≡ cond high top (lower top (mid (side corner extent))) ⌝ }
 {
     if high {
         return top;
     }
-    if (mid < top) | (top != top) { mid } else { top }
+    let plane = midplane(corner, extent);
+    if (plane < top) | (top != top) {
+        plane
+    } else {
+        top
+    }
 }
 
 // Whether a side can be one of a boundary.

@@ -335,13 +335,13 @@ narrowed-bounding (s ∷ b) (l ∷ ls) (t ∷ ts) [] i = refl
 narrowed-bounding (s ∷ b) (l ∷ ls) (t ∷ ts) (e ∷ es) i = ap (λ (a : List Bound). halved (eqb (i % 2) 1) (mid s) (record { low = l; top = t; edge = e }) ∷ a) (narrowed-bounding b ls ts es (i / 2))
 
 -- one axis more
-pub lows-more : (s : Side) (b : List Side) (l : Float) (ls : List Float) (i j : ℕ) (y m : Float) (r : List Float) (h : Bool) → h ≡ eqb (i % 2) 1 → m ≡ mid s → y ≡ cond h (higher l m) l → j ≡ i / 2 → r ≡ lows b ls j → y ∷ r ≡ lows (s ∷ b) (l ∷ ls) i
+pub lows-more : (s : Side) (b : List Side) (l : Float) (ls : List Float) (i : ℕ) (y : Float) (r : List Float) → y ≡ cond (eqb (i % 2) 1) (higher l (mid s)) l → r ≡ lows b ls (i / 2) → y ∷ r ≡ lows (s ∷ b) (l ∷ ls) i
 unfolding lows
-lows-more s b l ls i j y m r h eh em ey ej er = ap₂ {C = List Float} (λ (u : Float) (v : List Float). u ∷ v) (ey ∙ ap₂ (λ (u : Bool) (v : Float). cond u (higher l v) l) eh em) (er ∙ ap (lows b ls) ej)
+lows-more s b l ls i y r ey er = ap₂ {C = List Float} (λ (u : Float) (v : List Float). u ∷ v) ey er
 
-pub tops-more : (s : Side) (b : List Side) (t : Float) (ts : List Float) (i j : ℕ) (y m : Float) (r : List Float) (h : Bool) → h ≡ eqb (i % 2) 1 → m ≡ mid s → y ≡ cond h t (lower t m) → j ≡ i / 2 → r ≡ tops b ts j → y ∷ r ≡ tops (s ∷ b) (t ∷ ts) i
+pub tops-more : (s : Side) (b : List Side) (t : Float) (ts : List Float) (i : ℕ) (y : Float) (r : List Float) → y ≡ cond (eqb (i % 2) 1) t (lower t (mid s)) → r ≡ tops b ts (i / 2) → y ∷ r ≡ tops (s ∷ b) (t ∷ ts) i
 unfolding tops
-tops-more s b t ts i j y m r h eh em ey ej er = ap₂ {C = List Float} (λ (u : Float) (v : List Float). u ∷ v) (ey ∙ ap₂ (λ (u : Bool) (v : Float). cond u t (lower t v)) eh em) (er ∙ ap (tops b ts) ej)
+tops-more s b t ts i y r ey er = ap₂ {C = List Float} (λ (u : Float) (v : List Float). u ∷ v) ey er
 
 pub lows-none : (ls : List Float) (i : ℕ) → [] ≡ lows [] ls i
 unfolding lows
