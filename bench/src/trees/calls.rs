@@ -50,12 +50,14 @@ where
 /// Those that `probe` lets C call.
 pub struct Inner;
 
-/// Declares the inner calls of a tree, which have the signatures of the public ones, and makes them safe to call.
+/// Declares the inner calls of a tree, which have the signatures of the public ones, and makes them safe to
+/// call.
 #[rustfmt::skip]
 macro_rules! inner {
     (
         $axes:literal, [$($axis:ident),*], [$($extent:ident),*];
-        $sound:ident, $insert:ident, $delete:ident, $contains:ident, $radius:ident, $in_box:ident, $nearest:ident
+        $sound:ident, $insert:ident, $delete:ident, $contains:ident,
+        $radius:ident, $in_box:ident, $nearest:ident
     ) => {
         extern "C" {
             fn $sound(
@@ -79,7 +81,8 @@ macro_rules! inner {
             ) -> u32;
             fn $in_box(
                 _: In, _: usize, _: In, _: usize, _: In, _: usize, _: In, _: usize,
-                $($axis: f64,)* $($extent: f64,)* coords: Out, _: usize, payloads: Out, _: usize, count: *mut u32,
+                $($axis: f64,)* $($extent: f64,)*
+                coords: Out, _: usize, payloads: Out, _: usize, count: *mut u32,
             ) -> u32;
             fn $nearest(
                 _: In, _: usize, _: In, _: usize, _: In, _: usize, _: In, _: usize,

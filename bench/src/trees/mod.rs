@@ -1,5 +1,5 @@
-//! A tree with 512 points, over the number of axes. Size is the capacity. Ours is called in two ways: the inner calls
-//! rely on a sound tree as the Rust's do; the public ones test for that first, at every call.
+//! A tree with 512 points, over the number of axes. Size is the capacity. Ours is called in two ways: the inner
+//! calls rely on a sound tree as the Rust's do; the public ones test for that first, at every call.
 
 mod calls;
 mod ours;

@@ -158,19 +158,15 @@ where
     let mut point = *run.random.pick(&list);
     match run.random.below(12) as usize {
         0 => point.payload = point.payload.wrapping_add(1),
-        axis if axis <= N => another(&mut point.at, axis - 1),
+        axis if axis <= N => another(&mut point.at[axis - 1]),
         _ => {}
     }
     point
 }
 
-/// The other zero, or a double off; y keeps its place.
-fn another<const N: usize>(at: &mut [f64; N], axis: usize) {
-    at[axis] = match at[axis] {
-        0.0 => -at[axis],
-        _ if axis == 1 => at[axis],
-        _ => at[axis].next_up(),
-    }
+/// The other zero, or the next double.
+fn another(x: &mut f64) {
+    *x = if *x == 0.0 { -*x } else { x.next_up() };
 }
 
 /// A point with a new payload, or with one that others have.

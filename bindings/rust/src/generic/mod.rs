@@ -1,5 +1,5 @@
-//! Both trees in one text, over the number of axes. What the modules `quadtree` and `octree` name are these types for
-//! two and for three axes; code that serves both trees is written with these.
+//! Both trees in one text, over the number of axes. What the modules `quadtree` and `octree` name are these types
+//! for two and for three axes; code that serves both trees is written with these.
 
 mod calls;
 mod pieces;
@@ -15,8 +15,8 @@ pub use tree::{Bulk, Tree};
 /// The library that is linked.
 pub struct Library;
 
-/// That the library has a tree with N axes: the tree's types, and its C functions on whole slices. Each gives its
-/// reply number and sets the figure that it is lent.
+/// That the library has a tree with N axes: the tree's types, and its C functions on whole slices. Each gives
+/// its reply number and sets the figure that it is lent.
 pub trait Axes<const N: usize> {
     /// A point as the host writes it.
     type Point: Copy + Debug + PartialEq + From<Point<N>> + Into<Point<N>>;

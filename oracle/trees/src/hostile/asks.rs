@@ -39,7 +39,7 @@ impl<const N: usize> Words<N> {
     pub fn new(random: &mut Random, held: [f64; N], payload: u32) -> Self {
         let at = if random.once_in(2) { held } else { [0; N].map(|_| 8.0 * random.unit()) };
         let mut boundary = even(0.0, 8.0);
-        boundary.extent[0] = *random.pick(&[8.0, 8.0, 0.0, -1.0, f64::NAN]);
+        boundary.extent[random.below(N as u64) as usize] = *random.pick(&[8.0, 8.0, 0.0, -1.0, f64::NAN]);
         Words {
             point: Point { at, payload },
             boundary,
