@@ -53,7 +53,7 @@ fn put_float(t: &mut [u8], i: usize, x: f64)
 }
 
 // How many points both slices have room for.
-fn room(axes: u8, coords: usize, payloads: usize) -> usize
+pub fn room(axes: u8, coords: usize, payloads: usize) -> usize
     ensures { λ r. ⌜ r ≡ min (coords / (8 * axes)) (payloads / 4) ⌝ }
 {
     if axes == 0 {

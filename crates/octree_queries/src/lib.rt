@@ -1,2 +1,3 @@
 // The octree's queries, on pieces that hold a sound tree.
+pub mod ask;
 pub mod search;

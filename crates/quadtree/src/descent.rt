@@ -11,11 +11,11 @@ ghost use Rattle.trees.proofs.Descents.{reach, together, Needs};
 ghost use Rattle.trees.proofs.Finds.{seek};
 ghost use Rattle.trees.proofs.Walks.{Notes};
 ghost use Rattle.trees.proofs.Ways.{way};
-use crate::place::payload;
 use crate::place::point_at;
 use geometry::plane::Point2D;
 use geometry::plane::Rectangle;
 use paths::note_node;
+use pieces::payload;
 use pool::child;
 use pool::count;
 use pool::first;
@@ -79,7 +79,7 @@ pub struct Spot {
 fn same_at(points: &[u8], p: u32, point: Point2D, mark: u32) -> bool
     ensures { λ r. ⌜ r ≡ same (record { at = place2 point; payload = mark }) (pointAt 2 (words (now (points .entry))) p) ⌝ }
 {
-    if payload(points, p) != mark {
+    if payload(2, points, p) != mark {
         return false;
     }
     let held = point_at(points, p);

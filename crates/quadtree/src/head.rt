@@ -1,13 +1,11 @@
-// The head of a tree, boundary and capacity, and the lengths of the pieces.
+// The boundary in the head of a tree.
 ghost use mathlib.Core.Path.{_≡_};
 ghost use Rattle.words.specs.Words.{words};
 ghost use Rattle.model.specs.Boxes.{acceptable};
-ghost use Rattle.model.specs.Calls.{quadtree};
 ghost use Rattle.geometry.specs.Sides.{sides2};
-ghost use Rattle.trees.specs.Pieces.{pieces, Fits, boundaryOf, capacityOf, Decides};
+ghost use Rattle.trees.specs.Pieces.{boundaryOf};
 use geometry::plane::Rectangle;
 use sound::accepts_side;
-use words::get;
 use words::get_float;
 
 pub fn boundary(head: &[u8]) -> Rectangle
@@ -25,22 +23,9 @@ pub fn boundary(head: &[u8]) -> Rectangle
     }
 }
 
-pub fn capacity(head: &[u8]) -> u32
-    ensures { λ r. ⌜ r ≡ capacityOf 2 (words (now (head .entry))) ⌝ }
-{
-    get(head, 8)
-}
-
 // Whether a rectangle can be a boundary.
 pub fn accepts(b: Rectangle) -> bool
     ensures { λ r. ⌜ r ≡ acceptable (sides2 b) ⌝ }
 {
     accepts_side(b.x, b.width) & accepts_side(b.y, b.height)
-}
-
-// Whether all pieces have a quadtree's lengths.
-pub fn fits(head: &[u8], nodes: &[u8], links: &[u8], points: &[u8]) -> bool
-    ensures { λ r. ⌜ Decides r (Fits quadtree (pieces (now (head .entry)) (now (nodes .entry)) (now (links .entry)) (now (points .entry)))) ⌝ }
-{
-    (head.len() == 40) & (nodes.len() == 5504) & (links.len() == 2052) & (points.len() == 12312)
 }

@@ -1,10 +1,9 @@
-// What lies in a place: a point of the plane and its payload.
+// What lies in a place: a point of the plane.
 ghost use mathlib.Core.Path.{_≡_};
 ghost use Rattle.words.specs.Words.{words};
 ghost use Rattle.geometry.specs.Sides.{place2};
 ghost use Rattle.trees.specs.Points.{pointAt};
 use geometry::plane::Point2D;
-use words::get;
 use words::get_float;
 
 pub fn point_at(points: &[u8], p: u32) -> Point2D
@@ -14,10 +13,4 @@ pub fn point_at(points: &[u8], p: u32) -> Point2D
     let x = get_float(points, i);
     let y = get_float(points, i + 1);
     Point2D { x, y }
-}
-
-pub fn payload(points: &[u8], p: u32) -> u32
-    ensures { λ r. ⌜ r ≡ pointAt 2 (words (now (points .entry))) p .payload ⌝ }
-{
-    get(points, 6 * (p as usize) + 4)
 }

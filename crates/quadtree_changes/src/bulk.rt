@@ -1,8 +1,8 @@
 // Many points at once: insert_bulk of the Rust.
-ghost use mathlib.Core.Path.{_≡_};
 ghost use Rattle.model.specs.Calls.{quadtree, Bulk};
-ghost use Rattle.trees.specs.Pieces.{pieces, lent, roomFor, DoesHeld};
+ghost use Rattle.trees.specs.Pieces.{pieces, lent, DoesHeld};
 use crate::insert::insert;
+use answers::room;
 use words::get;
 use words::get_float;
 
@@ -10,15 +10,6 @@ use words::get_float;
 pub struct Stored {
     pub reply: u32,
     pub count: usize,
-}
-
-// How many points both slices have.
-fn lent_points(coords: &[u8], payloads: &[u8]) -> usize
-    ensures { λ r. ⌜ r ≡ roomFor 2 (now (coords .entry)) (now (payloads .entry)) ⌝ }
-{
-    let a = coords.len() / 16;
-    let b = payloads.len() / 4;
-    if a < b { a } else { b }
 }
 
 // Inserts the lent points in their order, past those outside, up to the first that there is no room for: what was stored before it stays.
@@ -32,7 +23,7 @@ pub fn insert_bulk(
 ) -> Stored
     ensures { λ r. ⌜ DoesHeld quadtree (Bulk (lent 2 (now (coords .entry)) (now (payloads .entry)))) (pieces (now (head .entry)) (now (nodes .entry)) (now (links .entry)) (now (points .entry))) (pieces (now (head .entry)) (now (nodes .exit)) (now (links .exit)) (now (points .exit))) (r .reply) (r .count) ⌝ }
 {
-    let m = lent_points(coords, payloads);
+    let m = room(2, coords.len(), payloads.len());
     let mut n: usize = 0;
     let mut i: usize = 0;
     while i < m {

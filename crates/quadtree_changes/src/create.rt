@@ -10,8 +10,8 @@ ghost use Rattle.pool.specs.Writes.{pool};
 ghost use Rattle.trees.specs.Pieces.{pieces, Does, DoesHeld};
 ghost use Rattle.trees.proofs.Puts.{putHead};
 use geometry::plane::Rectangle;
+use pieces::fits;
 use quadtree::head::accepts;
-use quadtree::head::fits;
 use words::put;
 use words::put_float;
 
@@ -46,7 +46,7 @@ pub fn create(
 ) -> u32
     ensures { λ r. ⌜ Does quadtree (Create (side x width ∷ side y height ∷ []) capacity) (pieces (now (head .entry)) (now (nodes .entry)) (now (links .entry)) (now (points .entry))) (pieces (now (head .exit)) (now (nodes .exit)) (now (links .exit)) (now (points .entry))) r 0 ⌝ }
 {
-    if !fits(head, nodes, links, points) {
+    if !fits(2, 4, 85, head, nodes, links, points) {
         return 8;
     }
     if capacity == 0 {

@@ -4,12 +4,12 @@ ghost use Rattle.model.specs.Calls.{quadtree, Delete};
 ghost use Rattle.trees.specs.Pieces.{pieces, DoesHeld};
 use geometry::plane::Point2D;
 use paths::delete_along;
+use pieces::capacity;
 use pool::first;
 use pool::give_place;
 use quadtree::descent::find_in;
 use quadtree::descent::leaf_of;
 use quadtree::head::boundary;
-use quadtree::head::capacity;
 
 // Deletes the first equal point of its node's list: 0, or 1 outside the boundary, 2 where no equal point is held.
 pub fn delete(
@@ -36,7 +36,7 @@ pub fn delete(
     if p == 0 {
         return 2;
     }
-    let most = capacity(head);
+    let most = capacity(2, head);
     // NE, NW, SE, SW.
     let order: [u8; 4] = [1, 0, 3, 2];
     delete_along(

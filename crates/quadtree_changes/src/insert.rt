@@ -17,12 +17,12 @@ use geometry::plane::Point2D;
 use geometry::plane::Rectangle;
 use groups::has_groups;
 use paths::count_along;
+use pieces::capacity;
 use pool::count;
 use pool::take_place;
 use quadtree::descent::leaf_of;
 use quadtree::descent::need;
 use quadtree::head::boundary;
-use quadtree::head::capacity;
 use quadtree::insert::insert_within;
 
 // Whether enough groups are free for the splits that a point brings to the undivided node that it goes to.
@@ -86,7 +86,7 @@ pub fn insert(
     if n >= 512 {
         return 5;
     }
-    let most = capacity(head);
+    let most = capacity(2, head);
     let mut path: [usize; 32] = [0; 32];
     let leaf = leaf_of(nodes, 1, bounds, 32, at, &mut path);
     let node = leaf.node;

@@ -40,4 +40,16 @@ returns-2 : tie.Need-returns-2
 returns-2 c = nearest-given octree (pieces ((c .before .before .before .before .before .before .before .before .before .before .before .before .before .before .before .before .before .before .before .before .before .args .head .now)) ((c .before .before .before .before .before .before .before .before .before .before .before .before .before .before .before .before .before .before .before .before .before .args .nodes .now)) ((c .before .before .before .before .before .before .before .before .before .before .before .before .before .before .before .before .before .before .before .before .before .args .links .now)) ((c .before .before .before .before .before .before .before .before .before .before .before .before .before .before .before .before .before .before .before .before .before .args .points .now))) ((c .before .before .before .before .before .before .before .before .before .before .before .before .before .before .before .before .before .before .before .before .before .args .coords .now)) ((c .before .before .before .before .before .before .before .before .before .before .before .before .before .before .before .before .before .before .before .before .before .args .payloads .now)) (roomFor 3 ((c .before .before .before .before .before .before .before .before .before .before .before .before .before .before .before .before .before .before .before .before .before .args .coords .now)) ((c .before .before .before .before .before .before .before .before .before .before .before .before .before .before .before .before .before .before .before .before .before .args .payloads .now))) _ _ _ _ ((c .before .before .before .before .before .before .before .before .before .before .before .before .before .before .before .before .before .before .before .before .before .args .x) ∷ (c .before .before .before .before .before .before .before .before .before .before .before .before .before .before .before .before .before .before .before .before .before .args .y) ∷ (c .before .before .before .before .before .before .before .before .before .before .before .before .before .before .before .before .before .before .before .before .before .args .z) ∷ []) _ _ _ _ _ _ _ (subst T (sym (c .before .before .before .before .before .before .before .before .before .before .before .before .before .before .before .before .before .before .before .before .before .good .1 .1 .1 .1 .0 .1)) tt, (subst T (sym (c .before .before .before .before .before .before .before .before .before .before .before .before .before .before .before .before .before .before .before .before .before .good .1 .1 .1 .1 .1 .0 .1)) tt, (subst T (sym (c .before .before .before .before .before .before .before .before .before .before .before .before .before .before .before .before .before .before .before .before .before .good .1 .1 .1 .1 .1 .1 .0 .1)) tt, tt))) refl (c .before .before .before .before .before .before .before .before .before .before .before .before .before .boundary .ensures) (c .before .before .before .before .before .before .before .before .before .before .before .before .before .before .if1 .left) refl refl ((c .before .before .before .before .before .before .before .before .before .before .knn-search-helper .kept .1 .1 .1 .1 .1 .1 .1 .1 .0)) ((c .before .before .before .before .before .before .before .before .before .before .knn-search-helper .kept .1 .1 .1 .1 .1 .1 .1 .1 .1 .0)) (c .before .before .before .before .before .before .before .before .before .before .knn-search-helper .ensures) (c .before .before .before .before .answer .ensures)
 
 pub knn-search-spec : {M : Type 1} → statement M
-knn-search-spec = tie.close (tie.spec returns boundary-requires slice-aggregate-knn-search-helper slice-aggregate-knn-search-helper-2 knn-search-helper-requires slice-aggregate-answer answer-requires same-length same-length-2 returns-2)
+knn-search-spec =
+    tie.close
+    (tie.spec
+    returns
+    boundary-requires
+    slice-aggregate-knn-search-helper
+    slice-aggregate-knn-search-helper-2
+    knn-search-helper-requires
+    slice-aggregate-answer
+    answer-requires
+    same-length
+    same-length-2
+    returns-2)

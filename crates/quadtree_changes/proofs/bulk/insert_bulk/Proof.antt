@@ -19,8 +19,8 @@ Inv-loop head nodes₀ links₀ points₀ coords payloads m n₀ i₀ nodes link
 abbrev μ-loop : tie.MeasureT-loop
 μ-loop head nodes₀ links₀ points₀ coords payloads m n₀ i₀ nodes links points n i = m - i
 
-lent-points-requires : tie.Need-lent-points-requires Inv-loop μ-loop
-lent-points-requires c κs = search needs
+room-requires : tie.Need-room-requires Inv-loop μ-loop
+room-requires c κs = search needs
 
 loop-holds : tie.Need-loop-holds Inv-loop μ-loop
 loop-holds c = (omega arith, refl, refl, refl, bulking-start _ _ _)
@@ -56,7 +56,7 @@ same-length-3 : tie.Need-same-length-3 Inv-loop μ-loop
 same-length-3 c = search needs
 
 returns : tie.Need-returns Inv-loop μ-loop
-returns c = bulk-stop quadtree _ _ _ _ _ _ _ _ _ _ _ (c .before .before .before .before .before .before .before .before .before .before .before .before .before .before .before .loop .inv .4) (omega (arith, (c .before .before .before .before .before .before .before .before .before .before .before .before .before .before .loop-test .taken), (c .before .before .before .before .before .before .before .before .before .before .before .before .before .before .before .before .lent-points .ensures))) (ap₂ {C = List Float} (λ x y. x ∷ y ∷ []) (c .before .before .before .before .before .before .before .before .before .before .before .before .before .get-float .ensures) (c .before .before .before .before .before .before .before .before .before .before .before .before .get-float2 .ensures)) (c .before .before .before .before .before .before .before .before .before .before .before .get .ensures) (c .before .before .before .before .before .before .before .insert .ensures) (c .if1 .taken)
+returns c = bulk-stop quadtree _ _ _ _ _ _ _ _ _ _ _ (c .before .before .before .before .before .before .before .before .before .before .before .before .before .before .before .loop .inv .4) (omega (arith, (c .before .before .before .before .before .before .before .before .before .before .before .before .before .before .loop-test .taken), (c .before .before .before .before .before .before .before .before .before .before .before .before .before .before .before .before .room .ensures))) (ap₂ {C = List Float} (λ x y. x ∷ y ∷ []) (c .before .before .before .before .before .before .before .before .before .before .before .before .before .get-float .ensures) (c .before .before .before .before .before .before .before .before .before .before .before .before .get-float2 .ensures)) (c .before .before .before .before .before .before .before .before .before .before .before .get .ensures) (c .before .before .before .before .before .before .before .insert .ensures) (c .if1 .taken)
 
 cast-n : tie.Need-cast-n Inv-loop μ-loop
 cast-n c = search needs
@@ -71,7 +71,7 @@ loop-less : tie.Need-loop-less Inv-loop μ-loop
 loop-less c = search needs
 
 loop-again : tie.Need-loop-again Inv-loop μ-loop
-loop-again c = (omega (arith, (c .before .before .before .before .before .before .before .before .before .before .before .before .before .before .before .loop .inv .0)), (c .before .before .before .before .before .before .before .insert .kept .1 .0) ∙ (c .before .before .before .before .before .before .before .before .before .before .before .before .before .before .before .loop .inv .1), (c .before .before .before .before .before .before .before .insert .kept .1 .1 .0) ∙ (c .before .before .before .before .before .before .before .before .before .before .before .before .before .before .before .loop .inv .2), (c .before .before .before .before .before .before .before .insert .kept .1 .1 .1 .0) ∙ (c .before .before .before .before .before .before .before .before .before .before .before .before .before .before .before .loop .inv .3), bulk-next quadtree _ _ _ _ _ _ _ _ _ _ _ (c .before .before .before .before .before .before .before .before .before .before .before .before .before .before .before .loop .inv .4) (omega (arith, (c .before .before .before .before .before .before .before .before .before .before .before .before .before .before .loop-test .taken), (c .before .before .before .before .before .before .before .before .before .before .before .before .before .before .before .before .lent-points .ensures))) (ap₂ {C = List Float} (λ x y. x ∷ y ∷ []) (c .before .before .before .before .before .before .before .before .before .before .before .before .before .get-float .ensures) (c .before .before .before .before .before .before .before .before .before .before .before .before .get-float2 .ensures)) (c .before .before .before .before .before .before .before .before .before .before .before .get .ensures) (c .before .before .before .before .before .before .before .insert .ensures) (c .if1 .left))
+loop-again c = (omega (arith, (c .before .before .before .before .before .before .before .before .before .before .before .before .before .before .before .loop .inv .0)), (c .before .before .before .before .before .before .before .insert .kept .1 .0) ∙ (c .before .before .before .before .before .before .before .before .before .before .before .before .before .before .before .loop .inv .1), (c .before .before .before .before .before .before .before .insert .kept .1 .1 .0) ∙ (c .before .before .before .before .before .before .before .before .before .before .before .before .before .before .before .loop .inv .2), (c .before .before .before .before .before .before .before .insert .kept .1 .1 .1 .0) ∙ (c .before .before .before .before .before .before .before .before .before .before .before .before .before .before .before .loop .inv .3), bulk-next quadtree _ _ _ _ _ _ _ _ _ _ _ (c .before .before .before .before .before .before .before .before .before .before .before .before .before .before .before .loop .inv .4) (omega (arith, (c .before .before .before .before .before .before .before .before .before .before .before .before .before .before .loop-test .taken), (c .before .before .before .before .before .before .before .before .before .before .before .before .before .before .before .before .room .ensures))) (ap₂ {C = List Float} (λ x y. x ∷ y ∷ []) (c .before .before .before .before .before .before .before .before .before .before .before .before .before .get-float .ensures) (c .before .before .before .before .before .before .before .before .before .before .before .before .get-float2 .ensures)) (c .before .before .before .before .before .before .before .before .before .before .before .get .ensures) (c .before .before .before .before .before .before .before .insert .ensures) (c .if1 .left))
 
 same-length-4 : tie.Need-same-length-4 Inv-loop μ-loop
 same-length-4 c = search needs
@@ -83,7 +83,7 @@ same-length-6 : tie.Need-same-length-6 Inv-loop μ-loop
 same-length-6 c = search needs
 
 returns-2 : tie.Need-returns-2 Inv-loop μ-loop
-returns-2 c = bulk-end quadtree _ _ _ _ _ _ (c .before .loop .i) (c .before .loop .inv .4) (omega (arith, (c .loop-test .left), (c .before .before .lent-points .ensures)))
+returns-2 c = bulk-end quadtree _ _ _ _ _ _ (c .before .loop .i) (c .before .loop .inv .4) (omega (arith, (c .loop-test .left), (c .before .before .room .ensures)))
 
 pub insert-bulk-spec : {M : Type 1} → statement M
 insert-bulk-spec =
@@ -91,7 +91,7 @@ insert-bulk-spec =
     (tie.spec
     Inv-loop
     μ-loop
-    lent-points-requires
+    room-requires
     loop-holds
     mul-get-float
     get-float-requires

@@ -5,6 +5,7 @@ use lib.Dec.{T}
 use borrow.Author.Tests.{not-false, not-true}
 use Rattle.model.specs.Calls.{quadtree}
 use Rattle.model.proofs.Calls.{quadtree-regular}
+use Rattle.trees.proofs.Heads.{measured-as}
 use Rattle.trees.proofs.Creates.{creates-bad, creates-done, creates-misfit, creates-none}
 use borrow.Author.Needs.{needs}
 use Rattle.quadtree_changes.proofs.create.create.Statement.{statement}
@@ -23,7 +24,7 @@ same-length-3 : tie.Need-same-length-3
 same-length-3 c = search needs
 
 returns : tie.Need-returns
-returns c = creates-misfit quadtree _ _ _ _ (c .before .fits2 .ensures) (not-true (c .before .fits2 .result) (c .if1 .taken))
+returns c = creates-misfit quadtree _ _ _ _ (measured-as quadtree 85 _ _ refl (c .before .fits2 .ensures)) (not-true (c .before .fits2 .result) (c .if1 .taken))
 
 same-length-4 : tie.Need-same-length-4
 same-length-4 c = search needs
@@ -35,7 +36,7 @@ same-length-6 : tie.Need-same-length-6
 same-length-6 c = search needs
 
 returns-2 : tie.Need-returns-2
-returns-2 c = creates-none quadtree _ _ _ _ (c .before .before .fits2 .ensures) (not-false (c .before .before .fits2 .result) (c .before .if1 .left)) (c .if2 .taken)
+returns-2 c = creates-none quadtree _ _ _ _ (measured-as quadtree 85 _ _ refl (c .before .before .fits2 .ensures)) (not-false (c .before .before .fits2 .result) (c .before .if1 .left)) (c .if2 .taken)
 
 accepts-requires : tie.Need-accepts-requires
 accepts-requires c κs = search needs
@@ -50,7 +51,7 @@ same-length-9 : tie.Need-same-length-9
 same-length-9 c = search needs
 
 returns-3 : tie.Need-returns-3
-returns-3 c = creates-bad quadtree _ _ _ _ (c .before .before .before .before .fits2 .ensures) (not-false (c .before .before .before .before .fits2 .result) (c .before .before .before .if1 .left)) (c .before .before .if2 .left) _ (c .before .accepts .ensures) (not-true (c .before .accepts .result) (c .if3 .taken))
+returns-3 c = creates-bad quadtree _ _ _ _ (measured-as quadtree 85 _ _ refl (c .before .before .before .before .fits2 .ensures)) (not-false (c .before .before .before .before .fits2 .result) (c .before .before .before .if1 .left)) (c .before .before .if2 .left) _ (c .before .accepts .ensures) (not-true (c .before .accepts .result) (c .if3 .taken))
 
 put-head-requires : tie.Need-put-head-requires
 put-head-requires c κs = search needs
@@ -69,7 +70,7 @@ same-length-12 c = search needs
 
 returns-4 : tie.Need-returns-4
 unfolding zipWith
-returns-4 c = creates-done quadtree _ _ _ _ (c .before .before .before .before .before .before .before .before .before .before .before .before .before .before .before .fits2 .ensures) (not-false (c .before .before .before .before .before .before .before .before .before .before .before .before .before .before .before .fits2 .result) (c .before .before .before .before .before .before .before .before .before .before .before .before .before .before .if1 .left)) (c .before .before .before .before .before .before .before .before .before .before .before .before .before .if2 .left) _ (c .before .before .before .before .before .before .before .before .before .before .before .before .accepts .ensures) 85 (record { roomy = refl; few = omega arith; low = omega arith }) quadtree-regular _ _ refl refl refl (subst T (sym (c .before .before .before .before .before .before .before .before .before .before .before .before .before .before .before .before .before .before .before .before .before .before .before .good .1 .1 .1 .1 .0 .1)) tt, (subst T (sym (c .before .before .before .before .before .before .before .before .before .before .before .before .before .before .before .before .before .before .before .before .before .before .before .good .1 .1 .1 .1 .1 .0 .1)) tt, tt)) (subst T (sym (c .before .before .before .before .before .before .before .before .before .before .before .before .before .before .before .before .before .before .before .before .before .before .before .good .1 .1 .1 .1 .1 .1 .0 .1)) tt, (subst T (sym (c .before .before .before .before .before .before .before .before .before .before .before .before .before .before .before .before .before .before .before .before .before .before .before .good .1 .1 .1 .1 .1 .1 .1 .0 .1)) tt, tt)) _ _ _ (c .before .before .before .before .before .before .before .before .before .put-head .kept .0) (c .before .before .before .before .empty .kept .0) (c .before .before .before .before .empty .kept .1 .0) (c .before .before .before .before .before .before .before .before .before .put-head .ensures) (c .before .before .before .before .empty .ensures) (not-false (c .before .before .before .before .before .before .before .before .before .before .before .before .accepts .result) (c .before .before .before .before .before .before .before .before .before .before .before .if3 .left))
+returns-4 c = creates-done quadtree _ _ _ _ (measured-as quadtree 85 _ _ refl (c .before .before .before .before .before .before .before .before .before .before .before .before .before .before .before .fits2 .ensures)) (not-false (c .before .before .before .before .before .before .before .before .before .before .before .before .before .before .before .fits2 .result) (c .before .before .before .before .before .before .before .before .before .before .before .before .before .before .if1 .left)) (c .before .before .before .before .before .before .before .before .before .before .before .before .before .if2 .left) _ (c .before .before .before .before .before .before .before .before .before .before .before .before .accepts .ensures) 85 (record { roomy = refl; few = omega arith; low = omega arith }) quadtree-regular _ _ refl refl refl (subst T (sym (c .before .before .before .before .before .before .before .before .before .before .before .before .before .before .before .before .before .before .before .before .before .before .before .good .1 .1 .1 .1 .0 .1)) tt, (subst T (sym (c .before .before .before .before .before .before .before .before .before .before .before .before .before .before .before .before .before .before .before .before .before .before .before .good .1 .1 .1 .1 .1 .0 .1)) tt, tt)) (subst T (sym (c .before .before .before .before .before .before .before .before .before .before .before .before .before .before .before .before .before .before .before .before .before .before .before .good .1 .1 .1 .1 .1 .1 .0 .1)) tt, (subst T (sym (c .before .before .before .before .before .before .before .before .before .before .before .before .before .before .before .before .before .before .before .before .before .before .before .good .1 .1 .1 .1 .1 .1 .1 .0 .1)) tt, tt)) _ _ _ (c .before .before .before .before .before .before .before .before .before .put-head .kept .0) (c .before .before .before .before .empty .kept .0) (c .before .before .before .before .empty .kept .1 .0) (c .before .before .before .before .before .before .before .before .before .put-head .ensures) (c .before .before .before .before .empty .ensures) (not-false (c .before .before .before .before .before .before .before .before .before .before .before .before .accepts .result) (c .before .before .before .before .before .before .before .before .before .before .before .if3 .left))
 
 pub create-spec : {M : Type 1} → statement M
 create-spec =

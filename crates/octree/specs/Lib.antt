@@ -1,0 +1,2 @@
+-- What the octree's own types mean. Definitions only.
+pub mod Questions
