@@ -16,6 +16,8 @@ both!(
     searches_take_any_numbers,
     a_box_is_closed_on_every_axis,
     k_at_the_edges,
+    capacities_at_the_edges,
+    payloads_of_all_bits,
 );
 
 const ODD: [f64; 3] = [f64::NAN, f64::INFINITY, f64::NEG_INFINITY];
@@ -144,7 +146,35 @@ where
 {
     let points: Vec<_> = (0..512).map(|i| at(f64::from(i % 8), f64::from(i / 64), i)).collect();
     let tree = holding::<N>(100, &points);
-    for (k, wanted) in [(0, 0), (1, 1), (511, 511), (512, 512), (513, 512), (u32::MAX, 512)] {
-        assert_eq!(payloads(tree.knn_search_at([0.0; N], k)).len(), wanted);
+    for k in [0, 1, 511, 512, 513, 1 << 16, (1 << 16) + 1, 1 << 31, u32::MAX] {
+        assert_eq!(payloads(tree.knn_search_at([0.0; N], k)).len(), k.min(512) as usize);
+    }
+}
+
+fn capacities_at_the_edges<const N: usize>()
+where
+    Library: Axes<N>,
+{
+    let points: Vec<_> = (0..512).map(|i| at(f64::from(i % 8), f64::from(i / 64), i)).collect();
+    for capacity in [512, 1 << 16, (1 << 16) + 1, 1 << 31, u32::MAX] {
+        let mut tree = holding::<N>(capacity, &points);
+        assert_eq!(nodes(&tree), 1);
+        assert_eq!(tree.delete(points[0]), Ok(()));
+        assert_eq!((nodes(&tree), tree.len()), (1, Ok(511)));
+    }
+}
+
+fn payloads_of_all_bits<const N: usize>()
+where
+    Library: Axes<N>,
+{
+    let all = [0, 1 << 8, 1 << 16, 1 << 24, 1 << 31, u32::MAX];
+    let mut tree = holding::<N>(8, &all.map(|payload| at(1.0, 1.0, payload)));
+    assert_eq!(payloads(tree.range_search_at([1.0; N], 0.0)), all);
+    for payload in all {
+        assert_eq!(tree.contains(at(1.0, 1.0, payload)), Ok(true));
+        assert_eq!(tree.contains(at(1.0, 1.0, payload ^ 2)), Ok(false));
+        assert_eq!(tree.delete(at(1.0, 1.0, payload)), Ok(()));
+        assert_eq!(tree.contains(at(1.0, 1.0, payload)), Ok(false));
     }
 }

@@ -106,7 +106,7 @@ pub fn boundary<const N: usize>(random: &mut Random) -> Volume<N> {
 
 pub fn capacity(random: &mut Random) -> u32 {
     match random.below(16) {
-        0 => *random.pick(&[16, 100, 511, 512, 513, u32::MAX]),
+        0 => *random.pick(&[16, 100, 511, 512, 513, 1 << 16, (1 << 16) + 1, 1 << 31, u32::MAX]),
         1 if random.once_in(4) => 0,
         _ => random.between(1, 8) as u32,
     }
@@ -140,7 +140,10 @@ fn radius<const N: usize>(random: &mut Random, r: &Volume<N>) -> f64 {
 pub fn k(random: &mut Random, held: usize) -> u32 {
     let n = held as u32;
     match random.below(3) {
-        0 => *random.pick(&[0, 1, n.saturating_sub(1), n, n + 1, 511, 512, 513, u32::MAX]),
+        0 => {
+            let edges = [0, 1, n.saturating_sub(1), n, n + 1, 511, 512, 513];
+            *random.pick(&[&edges[..], &[1 << 16, (1 << 16) + 1, 1 << 31, u32::MAX]].concat())
+        }
         _ => random.below(9) as u32,
     }
 }

@@ -102,9 +102,9 @@ where
         reply
     }
 
-    /// A payload that no point has yet.
+    /// A payload that no point has yet, with bits anywhere.
     pub fn next_payload(&mut self) -> u32 {
-        self.payload = self.payload.wrapping_add(1);
+        self.payload = self.payload.wrapping_add(0x9e37_79b9);
         self.payload
     }
 }

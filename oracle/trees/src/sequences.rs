@@ -116,7 +116,8 @@ where
 {
     run.begin();
     let r = even(0.0, 8.0);
-    let capacity = *run.random.pick(&[1, 4, 7, 8, 9, 12, 16, 64, 511, 512, 513, u32::MAX]);
+    let capacity =
+        *run.random.pick(&[1, 4, 7, 8, 9, 12, 16, 64, 511, 512, 513, (1 << 16) + 1, 1 << 31, u32::MAX]);
     run.say(Call::Create(r, capacity));
     let places = match capacity {
         1 | 4 => Places::Few(vec![[1.0; N]]),
