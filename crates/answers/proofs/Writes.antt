@@ -2,7 +2,7 @@
 use mathlib.Core.Path.{_≡_, refl, ap, ap₂, sym, _∙_, subst}
 use mathlib.Core.List.{List, [], _∷_, _++_, map, flatten, append-nil}
 use Prim.Native.Nat.{ℕ, zero, suc, _+_, _-_, _*_, _/_, _%_, _<_, _≤_, min}
-use native.Mathlib.Nat.{div-mul-le-self, div-zero, mul-comm, mul-le-mul-left, mul-left-comm, mul-suc, suc-mul}
+use native.Mathlib.Nat.{div-mul-le-self, div-zero, mul-comm, mul-le-mul-left, mul-left-comm, mul-suc}
 use native.Mathlib.Numerals.{add-one, add-two, add-three, unary-clauses}
 use native.Mathlib.Omega.{arith}
 use lib.ListN.{length, getD, set, take, drop, length-map, drop-of-length-le}

@@ -6,7 +6,7 @@ use Prim.Native.Nat.{ℕ}
 use lib.Dec.{T}
 use borrow.Author.Tests.{not-true, not-false}
 use Rattle.model.specs.Calls.{Kind, Plan, State, misfit, broken, tree, number, Call, Create, Insert, Bulk, Delete, Clear, Ask, Query, refuse, unsound, step}
-use Rattle.trees.specs.Pieces.{Pieces, Fits, Holds, Says, Sane, Decides, Gives, Does, DoesHeld, Tells, Asks, AsksHeld, Hands, Searches, SearchesHeld, coordinates, payloads}
+use Rattle.trees.specs.Pieces.{Pieces, Says, Sane, Decides, Gives, Does, DoesHeld, Tells, Asks, AsksHeld, Hands, Searches, SearchesHeld, coordinates, payloads}
 
 -- every call but a creation
 abbrev pub NoCreation : Call → Type 0

@@ -10,12 +10,9 @@ use Rattle.model.specs.Trees.{Point, held, count, nodes, total, bag, joined}
 use Rattle.pool.specs.Lists.{occ, sumOf}
 use Rattle.pool.specs.Trees.{leaf, branch, PTree, flat, flats, none, placesAt, size, erase, joinedIn}
 use Rattle.model.proofs.Counts.{held-bag}
+use Rattle.model.proofs.Nearest.{map-append}
 use Rattle.pool.proofs.Lists.{is-same, sum-at}
 use Rattle.pool.proofs.Trees.{flats-at, Full, groupCount}
-
-pub map-append : {A B : Type 0} (f : A → B) (l m : List A) → map f (l ++ m) ≡ map f l ++ map f m
-map-append f [] m = refl
-map-append f (q ∷ l) m = ap (λ s. f q ∷ s) (map-append f l m)
 
 map-same : {A B : Type 0} (f g : A → B) (l : List A) (z : A) → ((c : ℕ) → c < length l → f (getD l c z) ≡ g (getD l c z)) → map f l ≡ map g l
 map-same f g [] z h = refl

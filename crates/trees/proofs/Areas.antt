@@ -4,7 +4,7 @@ use mathlib.Core.Path.{_≡_, refl, ap, ap₂, sym, _∙_, subst}
 use mathlib.Core.Logic.{_≢_, inl, inr}
 use mathlib.Core.Bool.{Bool, true, false, not, _&&_, _||_, cond}
 use mathlib.Core.List.{List, [], _∷_, map}
-use Prim.Native.Nat.{ℕ, zero, suc, _+_, _*_, _/_, _%_, _^_, _<_, _≤_}
+use Prim.Native.Nat.{ℕ, suc, _+_, _*_, _/_, _%_, _^_, _<_, _≤_}
 use native.Mathlib.Omega.{arith}
 use native.Mathlib.Nat.{pow-succ'}
 use lib.Dec.{T, eqb, lit≤}
@@ -16,12 +16,13 @@ use lib.Ieee.Bits.{ofBits-fits}
 use lib.Ieee.Fits.{neg-fits}
 use Rattle.floats.specs.Values.{plusZero}
 use lib.Ieee.Compare.{differs-from-itself}
-use Rattle.floats.proofs.Order.{nan-le, le-nan, le-transitive, le-total, le-nums, lt→le, lt-is, num-of, num?, le-eq, eq→le, eq-symmetric}
+use Rattle.floats.proofs.Order.{nan-le, le-transitive, le-total, le-nums, lt→le, lt-is, num-of, num?, le-eq, eq→le, eq-symmetric}
 use Rattle.floats.proofs.Bounds.{pow-fits}
 use Rattle.floats.proofs.Patterns.{same-no-nan, zero-bits}
 use Rattle.model.specs.Boxes.{Side, far, onEach, holds, inside, mid, turn, route, bounded, acceptable}
 use Rattle.model.specs.Soundness.{All}
-use Rattle.model.proofs.Inside.{F64, F64Side, far-held, mid-held}
+use Rattle.model.proofs.Inside.{F64, F64Side, mid-held}
+use Rattle.trees.proofs.Tests.{and-true, fails, true-of}
 
 -- at least low, at most the boundary's edge, and not at or above top; a top that is no number bounds nothing
 pub record Bound : Type 0 where
@@ -64,15 +65,8 @@ whole [] = []
 whole (s ∷ b) = record { low = s .corner; top = nan; edge = far s } ∷ whole b
 
 -- ---- tests
-true-of : {t : Bool} → T t → t ≡ true
-true-of {t = true} h = refl
-true-of {t = false} h = absurd h
-
 holds-of : {t : Bool} → t ≡ true → T t
 holds-of e = subst T (sym e) tt
-
-fails : {C : Type 0} {t : Bool} → t ≡ true → t ≡ false → C
-fails e h = absurd (subst T (sym e ∙ h) tt)
 
 by-test : {C : Type 0} (t : Bool) → (t ≡ true → C) → (t ≡ false → C) → C
 by-test true f g = f refl
@@ -205,11 +199,7 @@ unfolding lies whole inside onEach keeps holds
 whole-lies [] [] = refl
 whole-lies [] (w ∷ v) = refl
 whole-lies (s ∷ b) [] = refl
-whole-lies (s ∷ b) (w ∷ v) = ap₂ (λ (p q : Bool). p && q) (ap (λ (t : Bool). (le (s .corner) w && le w (far s)) && not t) (nan-le w) ∙ plain (le (s .corner) w && le w (far s))) (whole-lies b v)
-  where
-    plain : (t : Bool) → t && true ≡ t
-    plain true = refl
-    plain false = refl
+whole-lies (s ∷ b) (w ∷ v) = ap₂ (λ (p q : Bool). p && q) (ap (λ (t : Bool). (le (s .corner) w && le w (far s)) && not t) (nan-le w) ∙ and-true (le (s .corner) w && le w (far s))) (whole-lies b v)
 
 -- ---- their numbers are those of f64, and there are as many as axes
 higher-held : (l m : Float) → F64 l → F64 m → F64 (higher l m)
@@ -362,11 +352,7 @@ lies-more l t e v ls ts es vs x y ex ey = ap₂ (λ (a b : Bool). a && b) ex ey
 
 pub lies-last : (l t e v : Float) (x : Bool) → x ≡ (le l v && le v e) && not (le t v) → x ≡ lies (bounding (l ∷ []) (t ∷ []) (e ∷ [])) (v ∷ [])
 unfolding lies bounding onEach keeps
-lies-last l t e v x ex = ex ∙ plain ((le l v && le v e) && not (le t v))
-  where
-    plain : (u : Bool) → u ≡ u && true
-    plain true = refl
-    plain false = refl
+lies-last l t e v x ex = ex ∙ sym (and-true ((le l v && le v e) && not (le t v)))
 
 -- a boundary, one axis at a time
 pub accept-more : (s : Side) (b : List Side) (x y : Bool) → x ≡ bounded (s .corner) && (bounded (s .extent) && le plusZero (s .extent)) → y ≡ acceptable b → x && y ≡ acceptable (s ∷ b)

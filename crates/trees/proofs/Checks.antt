@@ -1,6 +1,6 @@
 -- The soundness test of one node and all below it: yes exactly when the words hold a tree there whose places and groups were not met before, with counts that match,
 -- no leaf too full, no divided node too empty, and every point within its bounds. Over any number of ways. Assumes nothing.
-use mathlib.Core.Path.{_≡_, refl, ap, ap₂, sym, _∙_, subst}
+use mathlib.Core.Path.{_≡_, refl, ap, sym, _∙_, subst}
 use mathlib.Core.Logic.{_≢_, _⊎_, inl, inr}
 use mathlib.Core.Bool.{Bool, true, false, not, _&&_}
 use mathlib.Core.List.{List, [], _∷_}
@@ -24,6 +24,7 @@ use Rattle.pool.proofs.Trees.{groups-flat, places-flat}
 use Rattle.trees.proofs.Areas.{Bound, lies, narrowed}
 use Rattle.trees.proofs.Heads.{both}
 use Rattle.trees.proofs.Marks.{Low, Marked, Fresh, marked-none, marked-then, marked-as, Claims, claims-mark, Linked, Listed, Walks, walks-end, walks-over, walks-bad, walks-met, walks-step}
+use Rattle.trees.proofs.Tests.{no-true}
 
 -- a count in words is how many places the tree has
 pub rep-size : (d ways : ℕ) (n x : List ℕ) (i : ℕ) (t : PTree d) → Rep d ways n x i t → getD n (4 * i + 3) 0 ≡ size d t
@@ -142,9 +143,6 @@ module _ (ways cap : ℕ) (pt : ℕ → Point) (n x : List ℕ) where
 
   unfoldable pub Checks : (d : ℕ) → List Side → List Bound → ℕ → (m u m' u' : List ℕ) → Bool → Type 0
   Checks d b a i m u m' u' r = Sized m u → 4 * i + 3 < length n → Checked d b a i m u m' u' r
-
-  no-true : {C : Type 0} → false ≡ true → C
-  no-true e = absurd (subst T (sym e) tt)
 
   -- ---- an undivided node
   linked-chain : (a : List Bound) (h : ℕ) (l : List ℕ) → Linked (after x) (listed pt x a) h l → Chain x h l × All (Tested a) l

@@ -28,7 +28,7 @@ use Rattle.pool.proofs.Lists.{by-eq, ifz-no, ifz-yes, occ-append, sum-at, sum-s
 use Rattle.pool.proofs.Trees.{flats-groups, flats-places, flats-size, groups-flat, places-flat, size-flat}
 use Rattle.trees.proofs.Descents.{Spot, child-erase, listAt, reach}
 use Rattle.trees.proofs.Inserts.{map-set}
-use Rattle.trees.proofs.Ways.{lowered-groups, reach-same, way, way-last, way-here, way-more, way-same}
+use Rattle.trees.proofs.Ways.{lowered-groups, reach-same, way, way-more, way-same}
 
 -- an order that has each number once, in the model's words and in those of the pool
 sum-total : (f : ℕ → ℕ) (l : List ℕ) → sumOf f l ≡ total (map f l)

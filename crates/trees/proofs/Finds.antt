@@ -1,5 +1,5 @@
 -- The first place of a list that passes a test, and the place before it. Assumes nothing.
-use mathlib.Core.Path.{_≡_, refl, ap, ap₂, sym, _∙_}
+use mathlib.Core.Path.{_≡_, refl, ap, sym, _∙_}
 use mathlib.Core.Logic.{_≢_}
 use mathlib.Core.Bool.{Bool, true, false, not, _&&_}
 use mathlib.Core.List.{List, [], _∷_, _++_, map}
@@ -12,10 +12,11 @@ use lib.ListN.{getD}
 use Rattle.model.specs.Boxes.{samePlace}
 use Rattle.model.specs.Trees.{Point, same}
 use Rattle.model.proofs.Short.{filled, first, withoutS}
-use Rattle.pool.specs.Lists.{is, occ, lastOr}
+use Rattle.pool.specs.Lists.{occ, lastOr}
 use Rattle.pool.specs.Read.{chain}
 use Rattle.pool.proofs.Lists.{is-eq}
 use Rattle.trees.proofs.Collects.{chain-step, chain-stop}
+use Rattle.trees.proofs.Tests.{and-false, and-true}
 
 -- a place or 0, and the one before it or 0
 pub record Place : Type 0 where
@@ -87,16 +88,8 @@ seek-whole f fuel all x h s e q = q ∙ ap (λ (j : ℕ). seek f (chain j x h) 0
 -- the payload is asked first
 pub same-other : (v : List Float) (m k : ℕ) (q : Point) → k ≡ q .payload → k ≢ m → false ≡ same (record { at = v; payload = m }) q
 unfolding same
-same-other v m k q ek ne = sym (ap (λ (t : Bool). samePlace v (q .at) && t) (ap (eqb m) (sym ek) ∙ ne-eqb m k (λ e. ne (sym e))) ∙ never (samePlace v (q .at)))
-  where
-    never : (a : Bool) → (a && false) ≡ false
-    never true = refl
-    never false = refl
+same-other v m k q ek ne = sym (ap (λ (t : Bool). samePlace v (q .at) && t) (ap (eqb m) (sym ek) ∙ ne-eqb m k (λ e. ne (sym e))) ∙ and-false (samePlace v (q .at)))
 
 pub same-here : (v w : List Float) (m k : ℕ) (q : Point) (a : Bool) → a ≡ samePlace v w → w ≡ q .at → k ≡ q .payload → k ≡ m → a ≡ same (record { at = v; payload = m }) q
 unfolding same
-same-here v w m k q a ea ew ek e = ea ∙ ap (samePlace v) ew ∙ sym (ap (λ (t : Bool). samePlace v (q .at) && t) (ap (eqb m) (sym ek) ∙ eq-eqb m k (sym e)) ∙ as-is (samePlace v (q .at)))
-  where
-    as-is : (a : Bool) → (a && true) ≡ a
-    as-is true = refl
-    as-is false = refl
+same-here v w m k q a ea ew ek e = ea ∙ ap (samePlace v) ew ∙ sym (ap (λ (t : Bool). samePlace v (q .at) && t) (ap (eqb m) (sym ek) ∙ eq-eqb m k (sym e)) ∙ and-true (samePlace v (q .at)))

@@ -17,6 +17,7 @@ pub mod Removals
 pub mod Seeks
 pub mod Soundness
 pub mod Tables
+pub mod Tests
 pub mod Turns
 pub mod Walks
 pub mod Ways

@@ -3,15 +3,15 @@ use mathlib.Core.Path.{_≡_, refl, ap, ap₂, sym, _∙_, subst}
 use mathlib.Core.Logic.{_≢_}
 use mathlib.Core.Bool.{Bool, true, false, not, _&&_}
 use mathlib.Core.List.{List, [], _∷_}
-use Prim.Native.Nat.{ℕ, zero, suc, _+_, _-_, _*_, _<_, _≤_}
+use Prim.Native.Nat.{ℕ, suc, _+_, _-_, _*_, _<_, _≤_}
 use native.Mathlib.Omega.{arith}
-use lib.Dec.{T}
 use borrow.Author.Tests.{not-true, not-false}
 use lib.ListN.{length, getD, set, length-set}
 use lib.Seq.{getD-set-same, getD-set-other}
 use Rattle.pool.specs.Lists.{is, occ, lastOr}
 use Rattle.pool.specs.Writes.{kid}
-use Rattle.pool.proofs.Lists.{by-eq, is-same, is-other, is-eq}
+use Rattle.pool.proofs.Lists.{by-eq, is-other, is-eq}
+use Rattle.trees.proofs.Tests.{no-true}
 
 -- each number at most once so far
 abbrev pub Low : List ℕ → Type 0
@@ -41,9 +41,6 @@ marked-as m m1 f g a e = record { long = a .long; sums = λ p. omega (arith, a .
 pub record Claims (m m' : List ℕ) (p : ℕ) (r : Bool) : Type 0 where
   pub sure : r ≡ true → (p < length m) × (getD m p 0 ≡ 0) × (m' ≡ set m p 1)
   pub only : p < length m → getD m p 0 ≡ 0 → r ≡ true
-
-no-true : {C : Type 0} → false ≡ true → C
-no-true e = absurd (subst T (sym e) tt)
 
 pub claims-yes : (m : List ℕ) (p : ℕ) → p < length m → getD m p 0 ≡ 0 → Claims m (set m p 1) p true
 claims-yes m p h e = record { sure = λ t. (h, e, refl); only = λ a b. refl }

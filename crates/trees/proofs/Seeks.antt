@@ -8,7 +8,7 @@ use lib.Dec.{T, ltb}
 use lib.ListN.{length, getD, length-map, List·getD-map, List·getD-eq-default}
 use lib.Ieee.{Float, lt}
 use Rattle.model.specs.Boxes.{Side, nodeDistance, part, squared}
-use Rattle.model.specs.Searches.{At, Child, Entry, children, entry, offerEach, place, placeEach, worst}
+use Rattle.model.specs.Searches.{At, Child, Entry, children, entry, offerEach, placeEach, worst}
 use Rattle.model.specs.Trees.{Point, Tree}
 use Rattle.model.proofs.Nearest.{over, seek, skips}
 use Rattle.knn.specs.Candidates.{at, numbered}

@@ -3,28 +3,27 @@ use mathlib.Core.Path.{_≡_, refl, ap, ap₂, sym, _∙_, subst}
 use mathlib.Core.Logic.{_≢_}
 use mathlib.Core.Bool.{Bool, true, false, not, _&&_}
 use mathlib.Core.List.{List, [], _∷_, _++_, map, flatten, zipWith}
-use Prim.Native.Nat.{ℕ, zero, suc, _+_, _-_, _*_, _/_, _^_, _<_, _≤_}
+use Prim.Native.Nat.{ℕ, zero, suc, _+_, _-_, _*_, _^_, _<_, _≤_}
 use native.Mathlib.Omega.{arith}
 use native.Mathlib.Nat.{mul-le-mul-left}
 use lib.Dec.{T, eqb}
 use borrow.Author.Tests.{not-true, not-false, eq-eqb, eqb-true}
 use lib.ListN.{length, getD, length-map, replicate, length-replicate}
-use lib.Ieee.{Float, binary64, ofBits}
+use lib.Ieee.{Float, binary64}
 use lib.Ieee.Bits.{ofBits-fits}
 use Rattle.model.specs.Boxes.{Side, part, route, inside, acceptable}
-use Rattle.model.specs.Trees.{Point, Tree, held, count}
-use Rattle.model.specs.Trees as model
+use Rattle.model.specs.Trees.{Point, held}
 use Rattle.model.specs.Calls.{Kind, ways, Plan}
-use Rattle.model.specs.Soundness.{All, Each, Sound, AllOrNone, Routed, AllInside, LeavesFit, BranchesFull}
+use Rattle.model.specs.Soundness.{All, Each, Sound, AllOrNone, Routed, LeavesFit, BranchesFull}
 use Rattle.model.proofs.Counts.{part-length}
 use Rattle.model.proofs.Inside.{F64, F64Side}
 use Rattle.model.proofs.Lists.{all-append, all-map}
 use Rattle.words.specs.Words.{words, pairs}
 use Rattle.words.proofs.Words.{length-words}
 use Rattle.pool.specs.Lists.{occ, sumOf, Chain}
-use Rattle.pool.specs.Trees.{leaf, branch, PTree, none, erase, groupsAt, placesAt, size}
+use Rattle.pool.specs.Trees.{leaf, branch, PTree, none, erase, groupsAt, placesAt}
 use Rattle.pool.specs.Worlds.{Rep, Free, World}
-use Rattle.pool.specs.Writes.{Pool, pool, kid}
+use Rattle.pool.specs.Writes.{pool, kid}
 use Rattle.pool.proofs.Chains.{once-short}
 use Rattle.pool.proofs.Erase.{erase-count}
 use Rattle.pool.proofs.Frames.{rep-full}
@@ -35,8 +34,9 @@ use Rattle.trees.specs.Points.{floats, pointAt}
 use Rattle.trees.specs.Pieces.{Pieces, Fits, boundaryOf, capacityOf, planOf, Holds, Sane, Decides}
 use Rattle.trees.proofs.Areas.{Bound, F64Bound, lies, narrowed, whole, narrowed-lies, narrowed-held, narrowed-length, whole-lies, whole-held, whole-length}
 use Rattle.trees.proofs.Heads.{both, Measured, measured-as}
-use Rattle.trees.proofs.Checks.{Tested, Proper, Found, Checked, Checks, Sized}
-use Rattle.trees.proofs.Marks.{Low, Marked, Fresh, Linked, Listed, Walks, AllMet, always, Frees, FreedPlaces, FreedGroups, Rest}
+use Rattle.trees.proofs.Checks.{Tested, Proper, Found, Checks, Sized}
+use Rattle.trees.proofs.Marks.{Linked, Listed, Walks, AllMet, always, Frees, FreedPlaces, FreedGroups, Rest}
+use Rattle.trees.proofs.Tests.{fails, no-true, true-of}
 
 -- ---- every point of a tree with place numbers
 module _ (P : ℕ → Type 0) where
@@ -62,10 +62,6 @@ held-rows h g Q P go (t ∷ ts) e = let q = all-split Q (h (g t)) (flatten (map 
     all-split : {A : Type 0} (P : A → Type 0) (l m : List A) → All P (l ++ m) → All P l × All P m
     all-split P [] m e = (tt, e)
     all-split P (q ∷ l) m e = let r = all-split P l m (e .1) in ((e .0, r .0), r .1)
-
-yes-of : {t : Bool} → T t → t ≡ true
-yes-of {t = true} h = refl
-yes-of {t = false} h = absurd h
 
 full-all : (d ways : ℕ) (ts : List (PTree d)) → (length ts ≡ ways) × ((c : ℕ) → c < ways → Full d ways (getD ts c (none d))) → All (Full d ways) ts
 full-all d ways ts f = all-at (Full d ways) (none d) ts (λ c l. f .1 c (omega (arith, l, f .0)))
@@ -119,10 +115,10 @@ module _ (ways cap axes : ℕ) (pt : ℕ → Point) (n x : List ℕ) (ew : 2 ^ a
     into-part q = narrowed-lies b a (pt q .at) c (la ∙ sym lb) (reg q .0 ∙ sym lb) fa (reg q .1) (omega (arith, lc, ew, ap (λ (e : ℕ). 2 ^ e) lb))
 
     from-part : (q : ℕ) → Lying (narrowed b a c) q → Lying a q × Routes b c q
-    from-part q h = let e = both (lies a (pt q .at)) (eqb (route b (pt q .at)) c) (sym (into-part q) ∙ yes-of h) in (subst T (sym (e .0)) tt, eqb-true (route b (pt q .at)) c (e .1))
+    from-part q h = let e = both (lies a (pt q .at)) (eqb (route b (pt q .at)) c) (sym (into-part q) ∙ true-of h) in (subst T (sym (e .0)) tt, eqb-true (route b (pt q .at)) c (e .1))
 
     to-part : (q : ℕ) → Lying a q → Routes b c q → Lying (narrowed b a c) q
-    to-part q h e = subst T (sym (into-part q ∙ ap₂ (λ (u v : Bool). u && v) (yes-of {t = lies a (pt q .at)} h) (eq-eqb (route b (pt q .at)) c e))) tt
+    to-part q h e = subst T (sym (into-part q ∙ ap₂ (λ (u v : Bool). u && v) (true-of {t = lies a (pt q .at)} h) (eq-eqb (route b (pt q .at)) c e))) tt
 
   pub record Properly (d : ℕ) (b : List Side) (a : List Bound) (t : PTree d) : Type 0 where
     pub lying : Everywhere (Lying a) d t
@@ -461,19 +457,16 @@ module _ (k : Kind) (s : Pieces) (rows : ℕ) (er : k .most ≡ suc (ways k * ro
 
   -- ---- the answer
   not-sane : (Sane k s → ⊥) → Decides false (Sane k s)
-  not-sane f = record { sure = λ t. absurd (subst T (sym t) tt); only = λ q. absurd (f q) }
-
-  yes-no : {C : Type 0} {t : Bool} → t ≡ true → t ≡ false → C
-  yes-no e h = absurd (subst T (sym e ∙ h) tt)
+  not-sane f = record { sure = λ t. no-true t; only = λ q. absurd (f q) }
 
   pub sound-lengths : (r : Bool) → Measured (k .axes) (ways k) rows s r → not r ≡ true → Decides false (Sane k s)
-  sound-lengths r m e = not-sane (λ q. yes-no (measured-as k rows s r er m .only (q .fits)) (not-true r e))
+  sound-lengths r m e = not-sane (λ q. fails (measured-as k rows s r er m .only (q .fits)) (not-true r e))
 
   pub sound-fits : (r : Bool) → Measured (k .axes) (ways k) rows s r → not r ≡ false → Fits k s
   sound-fits r m e = measured-as k rows s r er m .sure (not-false r e)
 
   pub sound-boundary : (b : List Side) → b ≡ bounds → acceptable b ≡ false → Decides false (Sane k s)
-  sound-boundary b eb e0 = let e : acceptable bounds ≡ false = sym (ap acceptable eb) ∙ e0 in not-sane (λ q. yes-no (yes-of {t = acceptable bounds} (subst (λ (a : Plan). T (acceptable (a .boundary))) (q .holds .plan) (q .holds .sound .boundary .0))) e)
+  sound-boundary b eb e0 = let e : acceptable bounds ≡ false = sym (ap acceptable eb) ∙ e0 in not-sane (λ q. fails (true-of {t = acceptable bounds} (subst (λ (a : Plan). T (acceptable (a .boundary))) (q .holds .plan) (q .holds .sound .boundary .0))) e)
 
   pub sound-capacity : (c : ℕ) → c ≡ cap → c ≡ 0 → Decides false (Sane k s)
   sound-capacity c ec e0 = let e : cap ≡ 0 = sym ec ∙ e0 in not-sane (λ q. absurd (omega (arith, e, subst (λ (a : Plan). 1 ≤ a .capacity) (q .holds .plan) (q .holds .sound .capacity))))
@@ -496,7 +489,7 @@ module _ (k : Kind) (s : Pieces) (rows : ℕ) (er : k .most ≡ suc (ways k * ro
         (subst (λ (e : ℕ). Checks (ways k) e pt n x 32 b a 1 (unmet 513) (unmet (suc rows)) m1 u1 t) ec w))
 
     pub sound-tree : not t ≡ true → Decides false (Sane k s)
-    sound-tree e = not-sane (λ q. yes-no (tree-passes fit (q .plan) (q .holds) (unmet 513) (unmet (suc rows)) m1 u1 t begun trees) (not-true t e))
+    sound-tree e = not-sane (λ q. fails (tree-passes fit (q .plan) (q .holds) (unmet 513) (unmet (suc rows)) m1 u1 t begun trees) (not-true t e))
 
     module _ (et : not t ≡ false) (m2 : List ℕ) (y : Bool) (v : Frees (λ p. getD x p 0) (λ p. p < length x) m1 (getD x 0 0) m2 y) where
       root : Tree1 fit (unmet 513) (unmet (suc rows)) m1 u1
@@ -510,7 +503,7 @@ module _ (k : Kind) (s : Pieces) (rows : ℕ) (er : k .most ≡ suc (ways k * ro
           long = root .places .long ∙ begun .long-m
 
       sound-places : not y ≡ true → Decides false (Sane k s)
-      sound-places e = not-sane (λ q. yes-no (places-pass fit (q .plan) (q .holds) (unmet 513) (unmet (suc rows)) m1 u1 begun root m2 y places) (not-true y e))
+      sound-places e = not-sane (λ q. fails (places-pass fit (q .plan) (q .holds) (unmet 513) (unmet (suc rows)) m1 u1 begun root m2 y places) (not-true y e))
 
       module _ (ey : not y ≡ false) (u2 : List ℕ) (o : Bool) (f : Frees (λ g. getD n (4 * kid (ways k) g 0) 0) (λ g. 4 * kid (ways k) g (ways k) ≤ length n) u1 (getD n 0 0) u2 o) where
         groups : FreeGroups u1 (getD n 0 0) 0 (suc rows) u2 o
@@ -521,7 +514,7 @@ module _ (k : Kind) (s : Pieces) (rows : ℕ) (er : k .most ≡ suc (ways k * ro
             long = root .groups .long ∙ begun .long-u
 
         sound-groups : not o ≡ true → Decides false (Sane k s)
-        sound-groups e = not-sane (λ q. yes-no (groups-pass fit (q .plan) (q .holds) (unmet 513) (unmet (suc rows)) m1 u1 begun root u2 o groups) (not-true o e))
+        sound-groups e = not-sane (λ q. fails (groups-pass fit (q .plan) (q .holds) (unmet 513) (unmet (suc rows)) m1 u1 begun root u2 o groups) (not-true o e))
 
         sound-all : (d e : Bool) → acceptable b ≡ true → c ≢ 0 → not o ≡ false → AllMet m2 d → AllMet u2 e → Decides (d && e) (Sane k s)
         sound-all d e ok one eo md me =

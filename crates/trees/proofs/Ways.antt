@@ -7,7 +7,7 @@ use native.Mathlib.Numerals.{add-one, sub-one}
 use native.Mathlib.Omega.{arith}
 use lib.Ieee.{Float}
 use lib.ListN.{length, getD, take, drop, drop-of-length-le, length-take}
-use lib.Seq.{drop-cons, getD-set-other, getD-take, length-take-le, take-at}
+use lib.Seq.{drop-cons, getD-set-other, getD-take, take-at}
 use Rattle.model.specs.Boxes.{Side, part, route}
 use Rattle.pool.specs.Lists.{ifz}
 use Rattle.pool.specs.Writes.{counted, kid, lowered}

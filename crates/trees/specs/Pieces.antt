@@ -6,7 +6,7 @@ use mathlib.Core.List.{List, [], _∷_, map, flatten, zipWith}
 use Prim.Native.Nat.{ℕ, zero, suc, _+_, _-_, _*_, _/_, _%_, _<_, _≤_, min}
 use lib.ListN.{length, getD}
 use lib.Seq.{sets}
-use lib.Ieee.{Float, binary64, toBits}
+use lib.Ieee.{binary64, toBits}
 use Rattle.model.specs.Boxes.{Side}
 use Rattle.model.specs.Trees.{Point}
 use Rattle.model.specs.Calls.{Kind, ways, Plan, State, misfit, broken, tree, number, Call, Query, Ask, Outcome, step}
