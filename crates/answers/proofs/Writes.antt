@@ -16,6 +16,7 @@ use Rattle.words.specs.Words.{pairs}
 use Rattle.pool.proofs.Lists.{by-lt}
 use Rattle.trees.specs.Pieces.{bytes, coordinates, payloads, roomFor, Hands}
 use Rattle.trees.specs.Points.{floats, pointAt}
+use Rattle.trees.proofs.Held.{floats-length}
 use Rattle.trees.proofs.Queries.{none-marked, none-written}
 use Rattle.trees.proofs.Walks.{sets-append}
 use Rattle.trees.specs.Handed.{Handed}
@@ -73,10 +74,6 @@ floatBytes-length : (vs : List Float) → length (floatBytes vs) ≡ 8 * length 
 unfolding floatBytes flatten bytes
 floatBytes-length [] = refl
 floatBytes-length (v ∷ vs) = omega (arith, floatBytes-length vs)
-
-floats-length : (axes : ℕ) (ns : List ℕ) (j : ℕ) → length (floats axes ns j) ≡ axes
-floats-length zero ns j = refl
-floats-length (suc a) ns j = ap suc (floats-length a ns (j + 1))
 
 floats-next : (left : ℕ) (ns : List ℕ) (j : ℕ) → 0 < left → floats left ns j ≡ ofBits binary64 (getD ns j 0) ∷ floats (left - 1) ns (j + 1)
 floats-next zero ns j h = absurd (omega arith)

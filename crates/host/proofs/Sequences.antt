@@ -1,18 +1,15 @@
 -- Any sequence of the host's calls on one tree's pieces is the model's run of these calls; so after it the points held are the accepted inserts less the successful
 -- deletes, counted since the last accepted creation or clear. Over both trees. Assumes nothing.
 use mathlib.Core.Path.{_≡_, refl, sym, subst}
-use mathlib.Core.Bool.{Bool, true, false}
 use mathlib.Core.List.{List, [], _∷_, map}
-use Prim.Native.Nat.{ℕ, _≤_, min}
-use lib.Dec.{T, leb}
+use Prim.Native.Nat.{ℕ, _≤_}
+use lib.Dec.{T}
 use lib.ListN.{length}
 use Rattle.model.specs.Boxes.{Side, acceptable}
-use Rattle.model.specs.Trees.{Point}
-use Rattle.model.specs.Calls.{Kind, Plan, State, misfit, broken, tree, empty, Call, Ask, Query, Contains, Len, IsEmpty, Radius, Box, Nearest, Outcome, noRoom, done, refuse, searchCall, step}
-use Rattle.model.specs.Searches.{radius, box, nearest}
+use Rattle.model.specs.Calls.{Kind, Plan, State, misfit, broken, tree, empty, Call, Ask, Query, step}
 use Rattle.model.specs.History.{run, ledger, blank}
 use Rattle.model.specs.Soundness.{All}
-use Rattle.model.proofs.After.{Balanced, held-after-creation}
+use Rattle.model.proofs.After.{Balanced, ask-same, held-after-creation}
 use Rattle.model.proofs.Calls.{Proper, Regular}
 use Rattle.model.proofs.Inside.{F64Side}
 use Rattle.trees.specs.Pieces.{Pieces, Says, Does, Asks, Searches}
@@ -42,24 +39,11 @@ runs-says k s [] r a y = y
 runs-says k s (m ∷ ms) r a y = runs-says k (m .left) ms (r .1) (step k a (m .call) .state) (r .0 a y .after)
 
 -- ---- a question is a call that leaves the pieces as they are
-search-state : (a : Plan) (n : ℕ) (ps : List Point) → searchCall a n ps .state ≡ tree a
-unfolding searchCall
-search-state a n ps = by (leb (length ps) n)
-  where
-    by : (t : Bool) → (elim t as (λ u. Outcome) [ true ↦ record { reply = done; state = tree a; figure = length ps; points = ps } | false ↦ refuse noRoom (tree a) ]) .state ≡ tree a
-    by true = refl
-    by false = refl
-
 ask-state : (k : Kind) (a : State) (q : Query) → step k a (Ask q) .state ≡ a
 unfolding step
 ask-state k misfit q = refl
 ask-state k broken q = refl
-ask-state k (tree a) (Contains p) = refl
-ask-state k (tree a) Len = refl
-ask-state k (tree a) IsEmpty = refl
-ask-state k (tree a) (Radius c r n) = search-state a n (radius c r 32 (a .root))
-ask-state k (tree a) (Box b n) = search-state a n (box b 32 (a .root))
-ask-state k (tree a) (Nearest c m n) = search-state a n (nearest (min m 512) c 32 (a .boundary) (a .root))
+ask-state k (tree a) q = ask-same a q
 
 module _ (k : Kind) (s : Pieces) (q : Query) (r n : ℕ) where
   pub asks-does : Asks k q s r n → Does k (Ask q) s s r n

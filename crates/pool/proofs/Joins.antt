@@ -1,7 +1,7 @@
 -- Lists joined in a row, and a divided node that becomes undivided. Assumes nothing.
 use mathlib.Core.Path.{_≡_, refl, ap, sym, subst, _∙_}
 use mathlib.Core.Logic.{_≢_}
-use mathlib.Core.List.{List, [], _∷_, _++_, flatten, append-assoc}
+use mathlib.Core.List.{List, [], _∷_, _++_, flatten, append-assoc, append-nil}
 use Prim.Native.Nat.{ℕ, zero, suc, _+_, _-_, _*_, _<_, _≤_}
 use native.Mathlib.Omega.{arith}
 use lib.ListN.{length, getD, set, length-set, length-append, length-map}
@@ -11,7 +11,7 @@ use Rattle.pool.specs.Writes.{Pool, both, kid, given, Row, row, hooked, 
 use Rattle.pool.specs.Trees.{leaf, branch, flat, flats, placesAt, joinedIn}
 use Rattle.pool.specs.Worlds.{RepLeaf, Rep, Free, World, Same, Frame}
 use Rattle.pool.specs.Meanings.{upFrom, Once, Merges}
-use Rattle.pool.proofs.Lists.{append-nil, by-eq, by-lt, pos, ifz-yes, ifz-no, is-same, is-other, occ-append}
+use Rattle.pool.proofs.Lists.{by-eq, by-lt, pos, ifz-yes, ifz-no, is-same, is-other, occ-append}
 use Rattle.pool.proofs.Chains.{chain-agree, occ-last, last-append, link, last-nonzero}
 use Rattle.pool.proofs.Trees.{flats-groups, flats-places, flats-size, flats-at}
 use Rattle.pool.proofs.Frames.{flat-rep, same-set, same-then, free-agree}

@@ -1,7 +1,7 @@
 -- A place more or less in the list of an undivided node. Assumes nothing.
 use mathlib.Core.Path.{_≡_, refl, ap, sym, subst, _∙_}
 use mathlib.Core.Logic.{_≢_}
-use mathlib.Core.List.{List, [], _∷_, _++_}
+use mathlib.Core.List.{List, [], _∷_, _++_, append-nil}
 use Prim.Native.Nat.{ℕ, zero, suc, _+_, _-_, _*_, _%_, _<_, _≤_}
 use native.Mathlib.Omega.{arith}
 use lib.ListN.{length, getD, set, length-set, length-append}
@@ -9,7 +9,7 @@ use lib.Seq.{getD-set-same, getD-set-other, lt-length-set}
 use Rattle.pool.specs.Lists.{occ, lastOr, Chain}
 use Rattle.pool.specs.Writes.{Pool, both, counted, lowered, ended, appended, relasted, cutOut}
 use Rattle.pool.specs.Worlds.{RepLeaf, Same}
-use Rattle.pool.proofs.Lists.{append-nil, by-eq, ifz-yes, ifz-no, is-same, is-other, is-eq, occ-append}
+use Rattle.pool.proofs.Lists.{by-eq, ifz-yes, ifz-no, is-same, is-other, is-eq, occ-append}
 use Rattle.pool.proofs.Chains.{chain-set, occ-last, last-append, link, no-zero, last-nonzero}
 use Rattle.pool.proofs.Frames.{same-set, same-refl, same-then}
 

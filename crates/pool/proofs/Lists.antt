@@ -50,10 +50,6 @@ pub occ-append : (p : ℕ) (l m : List ℕ) → occ p (l ++ m) ≡ occ p l + occ
 occ-append p [] m = omega arith
 occ-append p (q ∷ l) m = omega (arith, occ-append p l m)
 
-pub append-nil : (a : List ℕ) → a ++ [] ≡ a
-append-nil [] = refl
-append-nil (x ∷ a) = ap (λ s. x ∷ s) (append-nil a)
-
 -- ---- sums
 module _ {K : Type 0} where
   pub sum-at : (f : K → ℕ) (ts : List K) (c : ℕ) (z : K) → c < length ts → f (getD ts c z) ≤ sumOf f ts

@@ -33,7 +33,7 @@ use Rattle.pool.proofs.Trees.{groupCount}
 use Rattle.trees.specs.Pieces.{DoesHeld, Fits, Gives, Pieces, Says, boundaryOf, capacityOf, pieces, planOf}
 use Rattle.trees.specs.Points.{pointAt}
 use Rattle.trees.proofs.Descents.{Found, Needs, Spot, child-erase, listAt, reach, reach-found}
-use Rattle.trees.proofs.Held.{Held, Roomy, does-held, groups-held, links-long, nodes-held, places-held, plan-numbers, refusal, says-held, size-held, size-read, some-ways, whole}
+use Rattle.trees.proofs.Held.{Held, Roomy, does-held, groups-held, inside-as, links-long, nodes-held, places-held, plan-numbers, refusal, says-held, size-held, size-read, some-ways, whole}
 use Rattle.trees.proofs.Inserts.{Fills, Inserts, inserts-along}
 use Rattle.trees.proofs.Puts.{point-back, point-other, putPoint}
 use Rattle.trees.proofs.Ways.{countedAll, way}
@@ -158,17 +158,14 @@ module _ (k : Kind) (m : ℕ) (em : Roomy k m) (s : Pieces) (q : Point) where
   pub inserts-outside : (b : List Side) (r : Bool) → b ≡ box → r ≡ inside b (q .at) → r ≡ false → DoesHeld k (Insert q) s s 1 0
   unfolding number
   inserts-outside b r eb er z = does-held k (Insert q) s s 1 0
-      (λ t fl fp f h. refusal k s (planOf k s t) (step k (tree (planOf k s t)) (Insert q)) outside 1 (says-held k s t fl fp f h) (insert-outside k (planOf k s t) q (ap (λ (u : List Side). inside u (q .at)) (sym eb) ∙ sym er ∙ z)) refl)
+      (λ t fl fp f h. refusal k s (planOf k s t) (step k (tree (planOf k s t)) (Insert q)) outside 1 (says-held k s t fl fp f h) (insert-outside k (planOf k s t) q (inside-as (q .at) eb er z)) refl)
 
   module _ (b : List Side) (r : Bool) (eb : b ≡ box) (er : r ≡ inside b (q .at)) (y : r ≡ true) (c : ℕ) (ec : c ≡ getD (words (s .nodes)) (4 * 1 + 3) 0) where
-    within : inside box (q .at) ≡ true
-    within = ap (λ (u : List Side). inside u (q .at)) (sym eb) ∙ sym er ∙ y
-
     pub inserts-full : 512 ≤ c → DoesHeld k (Insert q) s s 5 0
     unfolding number
     inserts-full h5 = does-held k (Insert q) s s 5 0
         (λ t fl fp f h. refusal k s (planOf k s t) (step k (tree (planOf k s t)) (Insert q)) full 5 (says-held k s t fl fp f h)
-        (insert-full k (planOf k s t) q within (le-ltb (count 32 (planOf k s t .root)) 512 (omega (arith, h5, ec, size-read k s t fl fp f h, size-held k s t fl fp f h)))) refl)
+        (insert-full k (planOf k s t) q (inside-as (q .at) eb er y) (le-ltb (count 32 (planOf k s t .root)) 512 (omega (arith, h5, ec, size-read k s t fl fp f h, size-held k s t fl fp f h)))) refl)
 
     module _ (few : c < 512) (o : ℕ) (eo : o ≡ cap) (v : Bool) (rm : Rooms (ways k) o at (q .at) (words (s .nodes)) (words (s .links)) 32 b 1 v) where
       roomy : (t : PTree 32) (fl fp : List ℕ) → Fits k s → Held k s t fl fp → v ≡ leb (needed cap 32 box q (erase at 32 t)) (length fl)
@@ -214,7 +211,7 @@ module _ (k : Kind) (m : ℕ) (em : Roomy k m) (s : Pieces) (q : Point) where
       unfolding number
       inserts-crowded z = does-held k (Insert q) s s 6 0
           (λ t fl fp f h. refusal k s (planOf k s t) (step k (tree (planOf k s t)) (Insert q)) noNodes 6 (says-held k s t fl fp f h)
-          (insert-crowded k (planOf k s t) q within (counts t fl fp f h) (room-is t fl fp f h ∙ z)) refl)
+          (insert-crowded k (planOf k s t) q (inside-as (q .at) eb er y) (counts t fl fp f h) (room-is t fl fp f h ∙ z)) refl)
 
       module _ (n' x' w' : List ℕ) (yes : v ≡ true) (ln : length n' ≡ length (s .nodes)) (lx : length x' ≡ length (s .links)) (lp : length w' ≡ length (s .points))
           (st : Stores (k .axes) (ways k) o 32 b 1 q (pool (s .nodes) (s .links)) (pool n' x') (words (s .points)) (words w')) (fq : F64Point q) where
@@ -226,11 +223,11 @@ module _ (k : Kind) (m : ℕ) (em : Roomy k m) (s : Pieces) (q : Point) where
         stored t fl p fp f h =
             subst (λ (j : ℕ). Stores (k .axes) (ways k) j 32 box 1 q (pool (s .nodes) (s .links)) (pool n' x') (words (s .points)) (words w')) eo
             (subst (λ (u : List Side). Stores (k .axes) (ways k) o 32 u 1 q (pool (s .nodes) (s .links)) (pool n' x') (words (s .points)) (words w')) eb st) t fl p fp (h .world)
-            (some-ways k s t fl (p ∷ fp) f h) (whole k s t fl (p ∷ fp) f h .axes) (whole k s t fl (p ∷ fp) f h .good) free (omega (arith, links-long k s t fl (p ∷ fp) f h)) (omega (arith, fewer t fl (p ∷ fp) f h))
+            (some-ways k s t fl (p ∷ fp) f h) (whole k s t fl (p ∷ fp) f h .axes) (whole k s t fl (p ∷ fp) f h .good) free (omega (arith, links-long k s f)) (omega (arith, fewer t fl (p ∷ fp) f h))
             (omega (arith, length-words (s .points), f .points, mul-le-mul-left (k .axes + 1) near))
           where
             near : suc p ≤ 513
-            near = omega (arith, h .world .spare .2, links-long k s t fl (p ∷ fp) f h)
+            near = omega (arith, h .world .spare .2, links-long k s f)
 
             free : needed cap 32 box q (erase at 32 t) ≤ length fl
             free = leb→le (needed cap 32 box q (erase at 32 t)) (length fl) (subst T (sym yes ∙ roomy t fl (p ∷ fp) f h) tt)
@@ -247,7 +244,7 @@ module _ (k : Kind) (m : ℕ) (em : Roomy k m) (s : Pieces) (q : Point) where
               world = z .world;
               each-group = λ g nz le. z .groups g ∙ h .each-group g nz (omega (arith, le, ln, length-words n', length-words (s .nodes)));
               each-place = λ u nz lt. z .places u ∙ h .each-place u nz (omega (arith, lt, lx, length-words x', length-words (s .links)));
-              sound = subst (λ (u : Tree 32). Sound k (with-root a u)) (sym e) (insert-sound k a (plan-numbers k s t) (h .sound) q fq (subst T (sym within) tt) .0);
+              sound = subst (λ (u : Tree 32). Sound k (with-root a u)) (sym e) (insert-sound k a (plan-numbers k s t) (h .sound) q fq (subst T (sym (inside-as (q .at) eb er y)) tt) .0);
             } in
             record { reply = refl; figure = refl; after = subst (λ (u : Tree 32). Says k left (tree (with-root a u))) e (says-held k left (z .tree) (z .free) fp f' h'); refused = λ ne o. absurd (ne refl) }
 
@@ -257,4 +254,4 @@ module _ (k : Kind) (m : ℕ) (em : Roomy k m) (s : Pieces) (q : Point) where
             go : (t : PTree 32) (fl fp : List ℕ) → Fits k s → Held k s t fl fp → size 32 t + length fp ≡ 512 → Gives k (step k (tree (planOf k s t)) (Insert q)) s left 0 0
             go t fl [] f h all = absurd (omega (arith, all, fewer t fl [] f h))
             go t fl (p ∷ fp) f h all =
-                subst (λ (o : Outcome). Gives k o s left 0 0) (sym (insert-done k (planOf k s t) q within (counts t fl (p ∷ fp) f h) (room-is t fl (p ∷ fp) f h ∙ yes))) (keep t fl p fp f h)
+                subst (λ (o : Outcome). Gives k o s left 0 0) (sym (insert-done k (planOf k s t) q (inside-as (q .at) eb er y) (counts t fl (p ∷ fp) f h) (room-is t fl (p ∷ fp) f h ∙ yes))) (keep t fl p fp f h)

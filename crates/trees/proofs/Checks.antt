@@ -23,14 +23,9 @@ use Rattle.pool.proofs.Read.{rep-unique}
 use Rattle.pool.proofs.Trees.{groups-flat, places-flat}
 use Rattle.trees.proofs.Areas.{Bound, lies, narrowed}
 use Rattle.trees.proofs.Heads.{both}
+use Rattle.trees.proofs.Held.{rep-count}
 use Rattle.trees.proofs.Marks.{Low, Marked, Fresh, marked-none, marked-then, marked-as, Claims, claims-mark, Linked, Listed, Walks, walks-end, walks-over, walks-bad, walks-met, walks-step}
 use Rattle.trees.proofs.Tests.{no-true}
-
--- a count in words is how many places the tree has
-pub rep-size : (d ways : ℕ) (n x : List ℕ) (i : ℕ) (t : PTree d) → Rep d ways n x i t → getD n (4 * i + 3) 0 ≡ size d t
-rep-size zero ways n x i l r = r .4
-rep-size (suc d) ways n x i (leaf l) r = r .4
-rep-size (suc d) ways n x i (branch k ts) r = r .3
 
 -- the counts of the children from number c on, so many of them
 unfoldable pub counts : (ways : ℕ) → List ℕ → ℕ → (c some : ℕ) → ℕ
@@ -270,7 +265,7 @@ module _ (ways cap : ℕ) (pt : ℕ → Point) (n x : List ℕ) where
   row-counts : (d k c : ℕ) (ts : List (PTree d)) → Row d k c ts → counts ways n k c (length ts) ≡ sumOf (size d) ts
   unfolding counts
   row-counts d k c [] q = refl
-  row-counts d k c (t ∷ ts) q = omega (arith, rep-size d ways n x (kid ways k c) t (q .1), row-counts d k (suc c) ts (q .2))
+  row-counts d k c (t ∷ ts) q = omega (arith, rep-count d ways n x (kid ways k c) t (q .1), row-counts d k (suc c) ts (q .2))
 
   module _ (d : ℕ) (b : List Side) (a : List Bound) (k : ℕ) where
     abbrev pub Held : ℕ → List (PTree d) → Type 0

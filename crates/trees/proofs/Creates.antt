@@ -2,7 +2,7 @@
 use mathlib.Core.Path.{_≡_, refl, ap, ap₂, sym, _∙_, subst}
 use mathlib.Core.Logic.{_≢_}
 use mathlib.Core.Bool.{Bool, true, false}
-use mathlib.Core.List.{List, [], _∷_, zipWith}
+use mathlib.Core.List.{List, [], zipWith}
 use Prim.Native.Nat.{ℕ, zero, suc, _+_, _-_, _*_, _/_, _<_, _≤_}
 use native.Mathlib.Nat.{mul-div-cancel-left}
 use native.Mathlib.Omega.{arith}
@@ -29,7 +29,7 @@ use Rattle.pool.proofs.Theorems.{group-low}
 use Rattle.pool.proofs.Trees.{groups-flat, places-flat}
 use Rattle.trees.specs.Pieces.{Decides, Does, DoesHeld, Fits, Gives, Pieces, Says, boundaryOf, capacityOf, pieces, planOf}
 use Rattle.trees.specs.Points.{pointAt}
-use Rattle.trees.proofs.Held.{Held, Roomy, does-held, plan-numbers, says-held, sides-f64}
+use Rattle.trees.proofs.Held.{Held, Roomy, does-held, links-long, nodes-long, plan-numbers, says-held, sides-f64, sides-length}
 use Rattle.trees.proofs.Puts.{head-boundary, head-capacity, putHead}
 
 up-in : (m a q : ℕ) → a ≤ q → q < a + m → 1 ≤ occ q (upFrom a m)
@@ -48,36 +48,30 @@ pub record Named (k : Kind) (m : ℕ) : Type 0 where
 
 -- ---- an empty tree
 module _ (k : Kind) (m : ℕ) (nm : Named k m) (s : Pieces) (n' x' : List ℕ) (f : Fits k s) (ep : Empties (ways k) (pool (s .nodes) (s .links)) (pool n' x') 1) where
-  long-n : length (words (s .nodes)) ≡ 4 * (ways k * suc m)
-  long-n = omega (arith, length-words (s .nodes), f .nodes, nm .roomy)
-
-  long-x : length (words (s .links)) ≡ 513
-  long-x = omega (arith, length-words (s .links), f .links)
-
   rows : named (length (words (s .nodes)) / 4 / ways k) - 1 ≡ m
   rows = ap (λ (j : ℕ). named (j / ways k) - 1) quarter ∙ ap (λ (j : ℕ). named j - 1) (mul-div-cancel-left (suc m) (omega (arith, nm .low))) ∙ less (nm .few)
     where
       quarter : length (words (s .nodes)) / 4 ≡ ways k * suc m
-      quarter = omega (arith, long-n)
+      quarter = omega (arith, nodes-long k s m f (nm .roomy))
 
       less : suc m ≤ 4294967295 → named (suc m) - 1 ≡ m
       less h = omega arith
 
   spots : named (length (words (s .links))) - 1 ≡ 512
-  spots = ap (λ (j : ℕ). named j - 1) long-x
+  spots = ap (λ (j : ℕ). named j - 1) (links-long k s f)
 
   blank : World 32 (ways k) (pool n' x') 1 (none 32) (upFrom 1 m) (upFrom 1 512)
   unfolding Empties
   blank = subst (λ (j : ℕ). World 32 (ways k) (pool n' x') 1 (none 32) (upFrom 1 j) (upFrom 1 512)) rows
       (subst (λ (j : ℕ). World 32 (ways k) (pool n' x') 1 (none 32) (upFrom 1 (named (length (words (s .nodes)) / 4 / ways k) - 1)) (upFrom 1 j)) spots
-      (ep 32 (λ e. absurd (omega (arith, e))) (nm .low) (omega (arith, long-n, nm .low)) (omega (arith, long-x)) .0))
+      (ep 32 (λ e. absurd (omega (arith, e))) (nm .low) (omega (arith, nodes-long k s m f (nm .roomy), nm .low)) (omega (arith, links-long k s f)) .0))
 
   module _ (h p' : List ℕ) (ln : length n' ≡ length (s .nodes)) (lx : length x' ≡ length (s .links)) (sd : Sound k (planOf k (pieces h n' x' p') (none 32))) where
     blank-held : Held k (pieces h n' x' p') (none 32) (upFrom 1 m) (upFrom 1 512)
     blank-held = record {
       world = blank;
-      each-group = λ g nz le. each-up m g (groupsAt 32 g (none 32)) (groups-flat 32 g []) (blank .groups g) nz (group-low (ways k) m (words n') (omega (arith, nm .low)) (omega (arith, length-words n', length-words (s .nodes), ln, long-n)) g le);
-      each-place = λ q nz lt. each-up 512 q (placesAt 32 q (none 32)) (places-flat 32 q []) (blank .places q) nz (omega (arith, lt, length-words x', length-words (s .links), lx, long-x));
+      each-group = λ g nz le. each-up m g (groupsAt 32 g (none 32)) (groups-flat 32 g []) (blank .groups g) nz (group-low (ways k) m (words n') (omega (arith, nm .low)) (omega (arith, length-words n', length-words (s .nodes), ln, nodes-long k s m f (nm .roomy))) g le);
+      each-place = λ q nz lt. each-up 512 q (placesAt 32 q (none 32)) (places-flat 32 q []) (blank .places q) nz (omega (arith, lt, length-words x', length-words (s .links), lx, links-long k s f));
       sound = sd;
     }
 
@@ -163,12 +157,6 @@ module _ (k : Kind) (s : Pieces) (b : List Side) (cap : ℕ) where
               ap₂ (λ (u : List Side) (j : ℕ). plan-as u j (planOf k made (none 32) .root)) (ap (boundaryOf (k .axes)) eh ∙ head-boundary (k .axes) (words (s .head)) cs es cap ec ee (room f) fc fe ∙ eb) (ap (capacityOf (k .axes)) eh ∙ head-capacity (k .axes) (words (s .head)) cs es cap ec ee (room f))
               ∙ ap (plan-as b cap) (erase-flat (pointAt (k .axes) (words (s .points))) 32 [])
 
-          sides-long : (cs es : List Float) → length es ≡ length cs → length (zipWith {C = Side} (λ c e. record { corner = c; extent = e }) cs es) ≡ length cs
-          unfolding zipWith
-          sides-long [] es e = refl
-          sides-long (c ∷ cs) [] e = absurd (omega (arith, e))
-          sides-long (c ∷ cs) (x ∷ es) e = ap suc (sides-long cs es (omega (arith, e)))
-
           pub creates-done : u ≡ true → Does k (Create b cap) s made 0 0
           unfolding number
           creates-done e = creates-by made 0 (fits .sure yes) (λ a y. subst (λ (o : Outcome). Gives k o s made 0 0) (sym (create-done a some (sym eu ∙ e))) (record { reply = refl; figure = refl; after = says (fits .sure yes); refused = λ ne z. absurd (ne refl) }))
@@ -176,5 +164,5 @@ module _ (k : Kind) (s : Pieces) (b : List Side) (cap : ℕ) where
               says : Fits k s → Says k made (tree (empty b cap))
               says f =
                   let f' : Fits k made = record { head = lh ∙ f .head; nodes = ln ∙ f .nodes; links = lx ∙ f .links; points = f .points } in
-                  let kp = kept-empty k b cap rg (subst (All F64Side) eb (sides-f64 cs es fc fe)) (ap (λ (l : List Side). length l) (sym eb) ∙ sides-long cs es (ee ∙ sym ec) ∙ ec) (pos cap some) (subst T (sym (sym eu ∙ e)) tt) in
+                  let kp = kept-empty k b cap rg (subst (All F64Side) eb (sides-f64 cs es fc fe)) (ap (λ (l : List Side). length l) (sym eb) ∙ sides-length (k .axes) cs es ec ee) (pos cap some) (subst T (sym (sym eu ∙ e)) tt) in
                   subst (λ (a : Plan). Says k made (tree a)) (made-plan f) (says-held k made (none 32) (upFrom 1 m) (upFrom 1 512) f' (blank-held k m nm s n' x' f ep h (s .points) ln lx (subst (Sound k) (sym (made-plan f)) (kp .sound))))

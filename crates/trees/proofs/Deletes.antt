@@ -27,6 +27,7 @@ use Rattle.pool.proofs.Joins.{joined-sum, once-sum}
 use Rattle.pool.proofs.Lists.{by-eq, ifz-no, ifz-yes, occ-append, sum-at, sum-set}
 use Rattle.pool.proofs.Trees.{flats-groups, flats-places, flats-size, groups-flat, places-flat, size-flat}
 use Rattle.trees.proofs.Descents.{Spot, child-erase, listAt, reach}
+use Rattle.trees.proofs.Held.{rep-count}
 use Rattle.trees.proofs.Inserts.{map-set}
 use Rattle.trees.proofs.Ways.{lowered-groups, reach-same, way, way-more, way-same}
 
@@ -60,6 +61,10 @@ module _ (ways cap : ℕ) (order : List ℕ) (pt : ℕ → Point) (q : Point) wh
     pub groups : (g : ℕ) → groupsAt d g tree + occ g free ≡ groupsAt d g t + occ g fl
     pub places : (v : ℕ) → placesAt d v tree + is v p ≡ placesAt d v t
     pub sizes : suc (size d tree) ≡ size d t
+
+  -- the count that is lowered is at least 1, so that a subtraction that stops at 0 is never needed
+  pub count-positive : (d : ℕ) (b : List Side) (s r : Pool) (i p : ℕ) (t : PTree d) (fl fp : List ℕ) → World d ways s i t fl fp → Shrunk d b s r i p t fl fp → 1 ≤ getD (s .nodes) (4 * i + 3) 0
+  count-positive d b s r i p t fl fp w sh = omega (arith, sh .sizes, rep-count d ways (s .nodes) (s .links) i t (w .rep))
 
   -- where place p stands in the list of the node that the point q goes to, after the place `before` or first, and that it holds the point that is taken out
   pub record There (d : ℕ) (b : List Side) (p before : ℕ) (t : PTree d) : Type 0 where

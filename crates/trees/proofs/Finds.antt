@@ -36,16 +36,16 @@ pub seek-end : (f : ℕ → Bool) (left : ℕ) (x : List ℕ) (q z : ℕ) → le
 unfolding seek chain
 seek-end f left x q z e = ap (λ (j : ℕ). seek f (chain j x q) z) e
 
-by-test : (f : ℕ → Bool) (left : ℕ) (x : List ℕ) (q z : ℕ) (t : Bool) → 0 < left → q ≢ 0 → t ≡ f q → seek f (chain left x q) z ≡ elim t as (λ u. Place) [ true ↦ record { place = q; before = z } | false ↦ seek f (chain (left - 1) x (getD x q 0)) q ]
+seek-test : (f : ℕ → Bool) (left : ℕ) (x : List ℕ) (q z : ℕ) (t : Bool) → 0 < left → q ≢ 0 → t ≡ f q → seek f (chain left x q) z ≡ elim t as (λ u. Place) [ true ↦ record { place = q; before = z } | false ↦ seek f (chain (left - 1) x (getD x q 0)) q ]
 unfolding seek
-by-test f left x q z t h nz e = ap (λ (l : List ℕ). seek f l z) (chain-step left x q h nz) ∙ ap (λ (b : Bool). elim b as (λ u. Place) [ true ↦ record { place = q; before = z } | false ↦ seek f (chain (left - 1) x (getD x q 0)) q ]) (sym e)
+seek-test f left x q z t h nz e = ap (λ (l : List ℕ). seek f l z) (chain-step left x q h nz) ∙ ap (λ (b : Bool). elim b as (λ u. Place) [ true ↦ record { place = q; before = z } | false ↦ seek f (chain (left - 1) x (getD x q 0)) q ]) (sym e)
 
 pub seek-hit : (f : ℕ → Bool) (left : ℕ) (x : List ℕ) (q z : ℕ) (t : Bool) → 0 < left → q ≢ 0 → t ≡ f q → t ≡ true → seek f (chain left x q) z ≡ record { place = q; before = z }
-seek-hit f left x q z t h nz e y = by-test f left x q z t h nz e ∙ ap (λ (b : Bool). elim b as (λ u. Place) [ true ↦ record { place = q; before = z } | false ↦ seek f (chain (left - 1) x (getD x q 0)) q ]) y
+seek-hit f left x q z t h nz e y = seek-test f left x q z t h nz e ∙ ap (λ (b : Bool). elim b as (λ u. Place) [ true ↦ record { place = q; before = z } | false ↦ seek f (chain (left - 1) x (getD x q 0)) q ]) y
 
 pub seek-next : (f : ℕ → Bool) (left : ℕ) (x : List ℕ) (q z q' : ℕ) (t : Bool) → 0 < left → q ≢ 0 → t ≡ f q → t ≡ false → q' ≡ getD x q 0 → seek f (chain left x q) z ≡ seek f (chain (left - 1) x q') q
 seek-next f left x q z q' t h nz e y eq =
-    by-test f left x q z t h nz e ∙ ap (λ (b : Bool). elim b as (λ u. Place) [ true ↦ record { place = q; before = z } | false ↦ seek f (chain (left - 1) x (getD x q 0)) q ]) y
+    seek-test f left x q z t h nz e ∙ ap (λ (b : Bool). elim b as (λ u. Place) [ true ↦ record { place = q; before = z } | false ↦ seek f (chain (left - 1) x (getD x q 0)) q ]) y
     ∙ ap (λ (p : ℕ). seek f (chain (left - 1) x p) q) (sym eq)
 
 -- ---- by the model's words: the first equal point, and the list without it

@@ -34,7 +34,7 @@ use Rattle.trees.specs.Points.{pointAt}
 use Rattle.trees.proofs.Deletes.{Deletes, Shrunk, There}
 use Rattle.trees.proofs.Descents.{Found, Spot, listAt, reach, reach-found, taken-at}
 use Rattle.trees.proofs.Finds.{Place, Taken, equal, seek, seek-filled, seek-taken}
-use Rattle.trees.proofs.Held.{Held, does-held, plan-numbers, refusal, says-held, some-ways, whole}
+use Rattle.trees.proofs.Held.{Held, does-held, inside-as, plan-numbers, refusal, says-held, some-ways, whole}
 
 chain-low : (l m x : List ℕ) (h p : ℕ) → Chain x h (l ++ (p ∷ m)) → p < length x
 chain-low [] m x h p c = c .2
@@ -67,13 +67,10 @@ module _ (k : Kind) (rg : Regular k) (s : Pieces) (q : Point) (fq : F64Point q) 
   pub deletes-outside : r ≡ false → DoesHeld k (Delete q) s s 1 0
   unfolding number
   deletes-outside z = does-held k (Delete q) s s 1 0
-      (λ t fl fp f h. refusal k s (planOf k s t) (step k (tree (planOf k s t)) (Delete q)) outside 1 (says-held k s t fl fp f h) (delete-outside k (planOf k s t) q (ap (λ (u : List Side). inside u (q .at)) (sym eb) ∙ sym er ∙ z)) refl)
+      (λ t fl fp f h. refusal k s (planOf k s t) (step k (tree (planOf k s t)) (Delete q)) outside 1 (says-held k s t fl fp f h) (delete-outside k (planOf k s t) q (inside-as (q .at) eb er z)) refl)
 
   module _ (y : r ≡ true) (sp : Spot) (esp : sp ≡ reach (ways k) (words (s .nodes)) (q .at) 32 b 1) (c : ℕ) (ec : c ≡ getD (words (s .nodes)) (4 * sp .node + 1) 0)
       (z : Place) (ez : z ≡ seek (equal at q) (chain (length (words (s .links))) (words (s .links)) c) 0) where
-    within : inside box (q .at) ≡ true
-    within = ap (λ (u : List Side). inside u (q .at)) (sym eb) ∙ sym er ∙ y
-
     module _ (t : PTree 32) (fl fp : List ℕ) (f : Fits k s) (h : Held k s t fl fp) where
       abbrev list : List ℕ
       list = listAt (q .at) 32 box t
@@ -93,7 +90,7 @@ module _ (k : Kind) (rg : Regular k) (s : Pieces) (q : Point) (fq : F64Point q) 
       filled-is = ap filled (taken-at at q 32 box t) ∙ seek-filled at q list 0 (no-zero list (words (s .links)) (getD (words (s .nodes)) (4 * sp .node + 1) 0) (found .rep .2)) ∙ ap (λ (u : Place). not (eqb (u .place) 0)) (sym sought)
 
       deleted : (v : Bool) → not (eqb (z .place) 0) ≡ v → delete (k .order) cap 32 box q (erase at 32 t) ≡ given v (deleteS (k .order) cap 32 box q (erase at 32 t))
-      deleted v e = deleted-short k (planOf k s t) (plan-numbers k s t) (h .sound) (rg .0) q fq (subst T (sym within) tt) ∙ ap (λ (u : Bool). given u (deleteS (k .order) cap 32 box q (erase at 32 t))) (filled-is ∙ e)
+      deleted v e = deleted-short k (planOf k s t) (plan-numbers k s t) (h .sound) (rg .0) q fq (subst T (sym (inside-as (q .at) eb er y)) tt) ∙ ap (λ (u : Bool). given u (deleteS (k .order) cap 32 box q (erase at 32 t))) (filled-is ∙ e)
 
       there : z .place ≢ 0 → There (ways k) cap (k .order) at q 32 box (z .place) (z .before) t
       there nz = subst (λ (u : Place). There (ways k) cap (k .order) at q 32 box (u .place) (u .before) t) (sym sought) (from (seek-taken at q list 0 (λ e. nz (ap (λ (u : Place). u .place) sought ∙ e))))
@@ -107,7 +104,7 @@ module _ (k : Kind) (rg : Regular k) (s : Pieces) (q : Point) (fq : F64Point q) 
     pub deletes-absent : z .place ≡ 0 → DoesHeld k (Delete q) s s 2 0
     unfolding number
     deletes-absent e = does-held k (Delete q) s s 2 0
-        (λ t fl fp f h. refusal k s (planOf k s t) (step k (tree (planOf k s t)) (Delete q)) absent 2 (says-held k s t fl fp f h) (delete-absent k (planOf k s t) q within (deleted t fl fp f h false (ap not (eq-eqb (z .place) 0 e)))) refl)
+        (λ t fl fp f h. refusal k s (planOf k s t) (step k (tree (planOf k s t)) (Delete q)) absent 2 (says-held k s t fl fp f h) (delete-absent k (planOf k s t) q (inside-as (q .at) eb er y) (deleted t fl fp f h false (ap not (eq-eqb (z .place) 0 e)))) refl)
 
     module _ (nz : z .place ≢ 0) (o : ℕ) (eo : o ≡ cap) (n' x1 x' : List ℕ) (ln : length n' ≡ length (s .nodes)) (lx : length x' ≡ length (s .links))
         (dl : Deletes (ways k) o (k .order) at q 32 b (pool (s .nodes) (s .links)) (pool n' x1) 1 (z .place) (z .before)) (gp : GivesPlace (words x1) (words x') (z .place)) where
@@ -139,4 +136,4 @@ module _ (k : Kind) (rg : Regular k) (s : Pieces) (q : Point) (fq : F64Point q) 
 
       pub deletes-done : DoesHeld k (Delete q) s left 0 0
       deletes-done = does-held k (Delete q) s left 0 0
-          (λ t fl fp f h. subst (λ (u : Outcome). Gives k u s left 0 0) (sym (delete-done k (planOf k s t) q (deleteS (k .order) cap 32 box q (erase at 32 t)) within (deleted t fl fp f h true (ap not (ne-eqb (z .place) 0 nz))))) (keep t fl fp f h))
+          (λ t fl fp f h. subst (λ (u : Outcome). Gives k u s left 0 0) (sym (delete-done k (planOf k s t) q (deleteS (k .order) cap 32 box q (erase at 32 t)) (inside-as (q .at) eb er y) (deleted t fl fp f h true (ap not (ne-eqb (z .place) 0 nz))))) (keep t fl fp f h))

@@ -2,27 +2,24 @@
 use mathlib.Core.Path.{_≡_, refl, ap, ap₂, sym, _∙_, subst}
 use mathlib.Core.Logic.{_≢_}
 use mathlib.Core.Bool.{Bool, true, false, not, _&&_}
-use mathlib.Core.List.{List, [], _∷_, _++_, map, flatten, zipWith}
+use mathlib.Core.List.{List, [], _∷_, _++_, map, flatten}
 use Prim.Native.Nat.{ℕ, zero, suc, _+_, _-_, _*_, _^_, _<_, _≤_}
 use native.Mathlib.Omega.{arith}
 use native.Mathlib.Nat.{mul-le-mul-left}
 use lib.Dec.{T, eqb}
 use borrow.Author.Tests.{not-true, not-false, eq-eqb, eqb-true}
 use lib.ListN.{length, getD, length-map, replicate, length-replicate}
-use lib.Ieee.{Float, binary64}
-use lib.Ieee.Bits.{ofBits-fits}
 use Rattle.model.specs.Boxes.{Side, part, route, inside, acceptable}
 use Rattle.model.specs.Trees.{Point, held}
 use Rattle.model.specs.Calls.{Kind, ways, Plan}
 use Rattle.model.specs.Soundness.{All, Each, Sound, AllOrNone, Routed, LeavesFit, BranchesFull}
 use Rattle.model.proofs.Counts.{part-length}
-use Rattle.model.proofs.Inside.{F64, F64Side}
+use Rattle.model.proofs.Inside.{F64}
 use Rattle.model.proofs.Lists.{all-append, all-map}
-use Rattle.words.specs.Words.{words, pairs}
-use Rattle.words.proofs.Words.{length-words}
-use Rattle.pool.specs.Lists.{occ, sumOf, Chain}
+use Rattle.words.specs.Words.{words}
+use Rattle.pool.specs.Lists.{occ, Chain}
 use Rattle.pool.specs.Trees.{leaf, branch, PTree, none, erase, groupsAt, placesAt}
-use Rattle.pool.specs.Worlds.{Rep, Free, World}
+use Rattle.pool.specs.Worlds.{Free, World}
 use Rattle.pool.specs.Writes.{pool, kid}
 use Rattle.pool.proofs.Chains.{once-short}
 use Rattle.pool.proofs.Erase.{erase-count}
@@ -30,9 +27,11 @@ use Rattle.pool.proofs.Frames.{rep-full}
 use Rattle.pool.proofs.Lists.{by-lt, is-other, pos}
 use Rattle.pool.proofs.Read.{rep-unique}
 use Rattle.pool.proofs.Trees.{Full}
-use Rattle.trees.specs.Points.{floats, pointAt}
+use Rattle.pool.proofs.Worlds.{no-group-zero}
+use Rattle.trees.specs.Points.{pointAt}
 use Rattle.trees.specs.Pieces.{Pieces, Fits, boundaryOf, capacityOf, planOf, Holds, Sane, Decides}
 use Rattle.trees.proofs.Areas.{Bound, F64Bound, lies, narrowed, whole, narrowed-lies, narrowed-held, narrowed-length, whole-lies, whole-held, whole-length}
+use Rattle.trees.proofs.Held.{boundary-f64, boundary-length, links-long, nodes-long, point-regular}
 use Rattle.trees.proofs.Heads.{both, Measured, measured-as}
 use Rattle.trees.proofs.Checks.{Tested, Proper, Found, Checks, Sized}
 use Rattle.trees.proofs.Marks.{Linked, Listed, Walks, AllMet, always, Frees, FreedPlaces, FreedGroups, Rest}
@@ -183,48 +182,6 @@ module _ (ways cap axes : ℕ) (pt : ℕ → Point) (n x : List ℕ) (ew : 2 ^ a
     rows-out d b a lb la fa (in-proper d) 0 ts (omega (arith, f .0)) (full-all d ways ts f) (record { lying = p .lying; routed = p .routed; leaves = p .leaves; branches = p .branches .1 }),
   )
 
--- ---- numbers read from words
-floats-length : (a : ℕ) (ns : List ℕ) (j : ℕ) → length (floats a ns j) ≡ a
-floats-length zero ns j = refl
-floats-length (suc a) ns j = ap suc (floats-length a ns (j + 1))
-
-floats-held : (a : ℕ) (ns : List ℕ) (j : ℕ) → All F64 (floats a ns j)
-floats-held zero ns j = tt
-floats-held (suc a) ns j = (ofBits-fits binary64 (getD ns j 0), floats-held a ns (j + 1))
-
-sides-held : (cs es : List Float) → All F64 cs → All F64 es → All F64Side (zipWith (λ c e. record { corner = c; extent = e }) cs es)
-unfolding zipWith
-sides-held [] es fc fe = tt
-sides-held (c ∷ cs) [] fc fe = tt
-sides-held (c ∷ cs) (e ∷ es) fc fe = ((fc .0, fe .0), sides-held cs es (fc .1) (fe .1))
-
-sides-length : (a : ℕ) (cs es : List Float) → length cs ≡ a → length es ≡ a → length (zipWith {C = Side} (λ c e. record { corner = c; extent = e }) cs es) ≡ a
-unfolding zipWith
-sides-length zero [] es ec ee = refl
-sides-length zero (c ∷ cs) es ec ee = absurd (omega arith)
-sides-length (suc a) [] es ec ee = absurd (omega arith)
-sides-length (suc a) (c ∷ cs) [] ec ee = absurd (omega arith)
-sides-length (suc a) (c ∷ cs) (e ∷ es) ec ee = ap suc (sides-length a cs es (omega arith) (omega arith))
-
-pub boundary-held : (axes : ℕ) (w : List ℕ) → All F64Side (boundaryOf axes w)
-boundary-held axes w = sides-held (floats axes (pairs w) 0) (floats axes (pairs w) axes) (floats-held axes (pairs w) 0) (floats-held axes (pairs w) axes)
-
-pub boundary-length : (axes : ℕ) (w : List ℕ) → length (boundaryOf axes w) ≡ axes
-boundary-length axes w = sides-length axes (floats axes (pairs w) 0) (floats axes (pairs w) axes) (floats-length axes (pairs w) 0) (floats-length axes (pairs w) axes)
-
-pub point-regular : (axes : ℕ) (w : List ℕ) (q : ℕ) → (length (pointAt axes w q .at) ≡ axes) × All F64 (pointAt axes w q .at)
-point-regular axes w q = (floats-length axes (pairs w) ((axes + 1) * q), floats-held axes (pairs w) ((axes + 1) * q))
-
--- ---- group 0 is none
-groups-none : (d w : ℕ) (n x : List ℕ) (i : ℕ) (t : PTree d) → Rep d w n x i t → groupsAt d 0 t ≡ 0
-groups-none zero w n x i l r = refl
-groups-none (suc d) w n x i (leaf l) r = refl
-groups-none (suc d) w n x i (branch k ts) r = omega (arith, is-other 0 k (λ e. r .2 (sym e)), sum-zero (groupsAt d 0) (none d) ts (λ c l. groups-none d w n x (kid w k c) (getD ts c (none d)) (r .5 c (omega (arith, l, r .4)))))
-  where
-    sum-zero : {K : Type 0} (f : K → ℕ) (z : K) (ts : List K) → ((c : ℕ) → c < length ts → f (getD ts c z) ≡ 0) → sumOf f ts ≡ 0
-    sum-zero f z [] h = refl
-    sum-zero f z (t ∷ ts) h = omega (arith, h 0 (omega arith), sum-zero f z ts (λ c l. h (suc c) (omega arith)))
-
 all-or-none : (d w : ℕ) (pt : ℕ → Point) (t : PTree d) → Full d w t → AllOrNone w d (erase pt d t)
 unfolding erase
 all-or-none zero w pt l f = tt
@@ -304,12 +261,6 @@ module _ (k : Kind) (s : Pieces) (rows : ℕ) (er : k .most ≡ suc (ways k * ro
     pub long-u : length u ≡ suc rows
 
   module _ (fit : Fits k s) where
-    long-x : length x ≡ 513
-    long-x = length-words (s .links) ∙ omega (arith, fit .links)
-
-    long-n : length n ≡ 4 * (ways k * rows + ways k)
-    long-n = length-words (s .nodes) ∙ omega (arith, fit .nodes, er)
-
     grow : (a b : ℕ) → a ≤ b → ways k * a ≤ ways k * b
     grow a b h = mul-le-mul-left (ways k) h
 
@@ -317,14 +268,14 @@ module _ (k : Kind) (s : Pieces) (rows : ℕ) (er : k .most ≡ suc (ways k * ro
     twice w r = omega arith
 
     room-in : (g : ℕ) → g < suc rows → 4 * kid (ways k) g (ways k) ≤ length n
-    room-in g l = omega (arith, long-n, grow g rows (omega arith))
+    room-in g l = omega (arith, nodes-long k s rows fit er, grow g rows (omega arith))
 
     room-out : (g : ℕ) → 4 * kid (ways k) g (ways k) ≤ length n → g < suc rows
-    room-out g h = by-lt g (suc rows) (λ l. l) (λ l. absurd (omega (arith, h, long-n, grow (suc rows) g l, lw, twice (ways k) rows)))
+    room-out g h = by-lt g (suc rows) (λ l. l) (λ l. absurd (omega (arith, h, nodes-long k s rows fit er, grow (suc rows) g l, lw, twice (ways k) rows)))
 
     sized : (m u : List ℕ) → Begun m u → Sized (ways k) cap pt n x m u
     sized m u z = record {
-      places = z .long-m ∙ sym long-x;
+      places = z .long-m ∙ sym (links-long k s fit);
       inside = λ g l. room-in g (omega (arith, l, z .long-u));
       few = λ g h. omega (arith, room-out g h, z .long-u);
       low-m = λ p. omega (arith, z .no-places p);
@@ -332,7 +283,7 @@ module _ (k : Kind) (s : Pieces) (rows : ℕ) (er : k .most ≡ suc (ways k * ro
     }
 
     there : 4 * 1 + 3 < length n
-    there = omega (arith, long-n, lw)
+    there = omega (arith, nodes-long k s rows fit er, lw)
 
     abbrev pub Trees : (m u m' u' : List ℕ) → Bool → Type 0
     Trees = Checks (ways k) cap pt n x 32 bounds (whole bounds) 1
@@ -351,7 +302,7 @@ module _ (k : Kind) (s : Pieces) (rows : ℕ) (er : k .most ≡ suc (ways k * ro
     long-a = whole-length bounds ∙ long-b
 
     held-a : All F64Bound (whole bounds)
-    held-a = whole-held bounds (boundary-held (k .axes) (words (s .head)))
+    held-a = whole-held bounds (boundary-f64 (k .axes) (words (s .head)))
 
     -- ---- a sound tree passes every test
     module _ (a : Plan) (h : Holds k s a) where
@@ -387,7 +338,7 @@ module _ (k : Kind) (s : Pieces) (rows : ℕ) (er : k .most ≡ suc (ways k * ro
             l = spare-linked (getD x 0 0) (h .free-places) (h .world .spare)
 
             short : length (h .free-places) ≤ 513
-            short = once-short 513 (h .free-places) (linked-below (λ p. getD x p 0) (λ p. p < length x) 513 (getD x 0 0) (h .free-places) (λ p e. omega (arith, e, long-x)) (spare-linked (getD x 0 0) (h .free-places) (h .world .spare))) (λ p. omega (arith, h .world .places p))
+            short = once-short 513 (h .free-places) (linked-below (λ p. getD x p 0) (λ p. p < length x) 513 (getD x 0 0) (h .free-places) (λ p e. omega (arith, e, links-long k s fit)) (spare-linked (getD x 0 0) (h .free-places) (h .world .spare))) (λ p. omega (arith, h .world .places p))
 
         groups-pass : (u2 : List ℕ) (r : Bool) → FreeGroups u1 (getD n 0 0) 0 (suc rows) u2 r → r ≡ true
         groups-pass u2 r w = w .only (q .groups .low) (h .free-groups) (suc rows - length (h .free-groups)) l (omega (arith, short)) refl (λ g. omega (arith, met-group g, h .world .groups g))
@@ -400,13 +351,13 @@ module _ (k : Kind) (s : Pieces) (rows : ℕ) (er : k .most ≡ suc (ways k * ro
 
         all-places : (m2 : List ℕ) (r : Bool) → Listed (λ p. getD x p 0) (λ p. p < length x) always m1 (getD x 0 0) 0 513 m2 → AllMet m2 r → r ≡ true
         all-places m2 r w y = y .only (λ p nz lp e.
-            let s : w .list ≡ h .free-places = linked-unique (λ p. getD x p 0) (λ p. p < length x) (getD x 0 0) (w .list) (h .free-places) (w .linked) (spare-linked (getD x 0 0) (h .free-places) (h .world .spare)) in
-            absurd (omega (arith, e, w .marked .sums p, met-place p, ap (occ p) s, h .each-place p nz (omega (arith, lp, w .marked .long, q .places .long, z .long-m, long-x)))))
+            let same : w .list ≡ h .free-places = linked-unique (λ p. getD x p 0) (λ p. p < length x) (getD x 0 0) (w .list) (h .free-places) (w .linked) (spare-linked (getD x 0 0) (h .free-places) (h .world .spare)) in
+            absurd (omega (arith, e, w .marked .sums p, met-place p, ap (occ p) same, h .each-place p nz (omega (arith, lp, w .marked .long, q .places .long, z .long-m, links-long k s fit)))))
 
         all-groups : (u2 : List ℕ) (r : Bool) → Listed (λ g. getD n (4 * kid (ways k) g 0) 0) (λ g. 4 * kid (ways k) g (ways k) ≤ length n) always u1 (getD n 0 0) 0 (suc rows) u2 → AllMet u2 r → r ≡ true
         all-groups u2 r w y = y .only (λ g nz lg e.
-            let s : w .list ≡ h .free-groups = linked-unique (λ g. getD n (4 * kid (ways k) g 0) 0) (λ g. 4 * kid (ways k) g (ways k) ≤ length n) (getD n 0 0) (w .list) (h .free-groups) (w .linked) (free-linked (getD n 0 0) (h .free-groups) (h .world .free)) in
-            absurd (omega (arith, e, w .marked .sums g, met-group g, ap (occ g) s, h .each-group g nz (room-in g (omega (arith, lg, w .marked .long, q .groups .long, z .long-u))))))
+            let same : w .list ≡ h .free-groups = linked-unique (λ g. getD n (4 * kid (ways k) g 0) 0) (λ g. 4 * kid (ways k) g (ways k) ≤ length n) (getD n 0 0) (w .list) (h .free-groups) (w .linked) (free-linked (getD n 0 0) (h .free-groups) (h .world .free)) in
+            absurd (omega (arith, e, w .marked .sums g, met-group g, ap (occ g) same, h .each-group g nz (room-in g (omega (arith, lg, w .marked .long, q .groups .long, z .long-u))))))
 
     -- ---- what passes every test is a sound tree
     module _ (m u m1 u1 m2 u2 : List ℕ) (z : Begun m u) (q : Tree1 m u m1 u1) (wp : Listed (λ p. getD x p 0) (λ p. p < length x) always m1 (getD x 0 0) 0 513 m2)
@@ -429,7 +380,7 @@ module _ (k : Kind) (s : Pieces) (rows : ℕ) (er : k .most ≡ suc (ways k * ro
       }
         where
           apart : (g c : ℕ) → 1 ≡ kid (ways k) g c → groupsAt 32 g (q .tree) + occ g (wg .list) ≡ 0
-          apart zero c e = omega (arith, groups-none 32 (ways k) n x 1 (q .tree) (q .rep), linked-nonzero (λ g. getD n (4 * kid (ways k) g 0) 0) (λ g. 4 * kid (ways k) g (ways k) ≤ length n) (getD n 0 0) (wg .list) (wg .linked))
+          apart zero c e = omega (arith, no-group-zero 32 (ways k) n x 1 (q .tree) (q .rep), linked-nonzero (λ g. getD n (4 * kid (ways k) g 0) 0) (λ g. 4 * kid (ways k) g (ways k) ≤ length n) (getD n 0 0) (wg .list) (wg .linked))
           apart (suc g) c e = absurd (omega (arith, e, lw, twice (ways k) g))
 
       passed : Properly (ways k) cap (k .axes) pt n x refl (point-regular (k .axes) (words (s .points))) 32 bounds (whole bounds) (q .tree)
@@ -442,7 +393,7 @@ module _ (k : Kind) (s : Pieces) (rows : ℕ) (er : k .most ≡ suc (ways k * ro
         free-places = wp .list;
         world = world;
         each-group = λ g nz r. omega (arith, tally-g g, wg .marked .low g, pos (getD u2 g 0) (ag g nz (omega (arith, room-out g r, wg .marked .long, q .groups .long, z .long-u))));
-        each-place = λ p nz l. omega (arith, tally-p p, wp .marked .low p, pos (getD m2 p 0) (ap p nz (omega (arith, l, long-x, wp .marked .long, q .places .long, z .long-m))));
+        each-place = λ p nz l. omega (arith, tally-p p, wp .marked .low p, pos (getD m2 p 0) (ap p nz (omega (arith, l, links-long k s fit, wp .marked .long, q .places .long, z .long-m))));
         plan = refl;
         sound = record {
           boundary = (ok, long-b);
@@ -497,7 +448,7 @@ module _ (k : Kind) (s : Pieces) (rows : ℕ) (er : k .most ≡ suc (ways k * ro
 
       places : FreePlaces m1 (getD x 0 0) 0 513 m2 y
       unfolding Frees
-      places = subst (λ (e : ℕ). FreePlaces m1 (getD x 0 0) 0 e m2 y) long (v (record { within = λ p l. omega (arith, l, long, long-x fit); below = λ p l. omega (arith, l, long, long-x fit) }) 0)
+      places = subst (λ (e : ℕ). FreePlaces m1 (getD x 0 0) 0 e m2 y) long (v (record { within = λ p l. omega (arith, l, long, links-long k s fit); below = λ p l. omega (arith, l, long, links-long k s fit) }) 0)
         where
           long : length m1 ≡ 513
           long = root .places .long ∙ begun .long-m

@@ -217,14 +217,14 @@ unfolding numbered
 numbers-below i m [] h = tt
 numbers-below i m (d ∷ ds) h = (omega arith, numbers-below (suc i) m ds (omega arith))
 
-all-at : (P : At ℕ → Type 0) (es : List (At ℕ)) (j : ℕ) (z : At ℕ) → All P es → j < length es → P (getD es j z)
-all-at P [] j z a h = absurd (omega arith)
-all-at P (e ∷ es) zero z a h = a .0
-all-at P (e ∷ es) (suc j) z a h = all-at P es j z (a .1) (omega arith)
+all-get : (P : At ℕ → Type 0) (es : List (At ℕ)) (j : ℕ) (z : At ℕ) → All P es → j < length es → P (getD es j z)
+all-get P [] j z a h = absurd (omega arith)
+all-get P (e ∷ es) zero z a h = a .0
+all-get P (e ∷ es) (suc j) z a h = all-get P es j z (a .1) (omega arith)
 
 pub order-below : (b : List Side) (c : List Float) (ways j : ℕ) (z : At ℕ) → j < ways → getD (placeEach [] (numbered 0 (nears b c 0 ways))) j z .item < ways
 order-below b c ways j z h =
-    all-at (λ (e : At ℕ). e .item < ways) (placeEach [] (numbered 0 (nears b c 0 ways))) j z
+    all-get (λ (e : At ℕ). e .item < ways) (placeEach [] (numbered 0 (nears b c 0 ways))) j z
     (placeEach-all (λ (e : At ℕ). e .item < ways) [] (numbered 0 (nears b c 0 ways)) tt (numbers-below 0 ways (nears b c 0 ways) (omega (arith, nears-length b c 0 ways))))
     (omega (arith, h, order-length b c ways))
 

@@ -1,6 +1,5 @@
 -- `answers::put_place` meets its contract. Assumes nothing.
 use mathlib.Core.Path.{refl}
-use native.Mathlib.Omega.{arith}
 use Prim.Native.Nat.{_-_}
 use Rattle.words.specs.Words.{words}
 use Rattle.answers.proofs.Writes.{Placing, placing-start, placing-step, placing-end}

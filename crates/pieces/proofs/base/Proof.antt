@@ -2,7 +2,6 @@
 use Rattle.pool.proofs.Steps.{product-small}
 use native.Mathlib.Omega.{arith}
 use Rattle.trees.proofs.Heads.{base-is}
-use borrow.Author.Needs.{needs}
 use Rattle.pieces.proofs.base.Statement.{statement}
 use Rattle.pieces.proofs.base.Tie as tie
 
