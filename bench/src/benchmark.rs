@@ -19,7 +19,6 @@ impl Side {
         Side { before: None, work: Box::new(work) }
     }
 
-    #[cfg(feature = "quadtree")]
     pub fn prepared(before: impl Fn() + 'static, work: impl Fn(usize) -> u64 + 'static) -> Self {
         Side { before: Some(Box::new(before)), work: Box::new(work) }
     }

@@ -6,7 +6,6 @@ mod benchmark;
 mod knn;
 mod measure;
 mod table;
-#[cfg(feature = "quadtree")]
 mod trees;
 
 use benchmark::Benchmark;
@@ -14,10 +13,7 @@ use std::process::ExitCode;
 
 /// Every benchmark, in the order of the table.
 fn all() -> Vec<Benchmark> {
-    let all = knn::all().into_iter();
-    #[cfg(feature = "quadtree")]
-    let all = all.chain(trees::all());
-    all.collect()
+    knn::all().into_iter().chain(trees::all()).collect()
 }
 
 fn main() -> ExitCode {

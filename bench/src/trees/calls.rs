@@ -179,7 +179,6 @@ inner! {
     probe_quadtree_range_search, probe_quadtree_range_search_bbox, probe_quadtree_knn_search
 }
 
-#[cfg(feature = "octree")]
 inner! {
     3, [x, y, z], [width, height, depth];
     probe_octree_sound, probe_octree_insert, probe_octree_delete, probe_octree_contains,

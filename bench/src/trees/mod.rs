@@ -269,11 +269,8 @@ fn case<C, S, const N: usize>(
 
 pub fn all() -> Vec<Benchmark> {
     let plane = Sizes { capacities: [8, 16], radius: SIDE / 16.0, extent: SIDE / 8.0 };
-    let all = lines::<oracle::space::Plane, 2>(plane).into_iter();
-    #[cfg(feature = "octree")]
-    let all = {
-        let solid = Sizes { capacities: [16, 32], radius: SIDE / 8.0, extent: SIDE / 4.0 };
-        all.chain(lines::<oracle::space::Solid, 3>(solid))
-    };
-    all.collect()
+    let solid = Sizes { capacities: [16, 32], radius: SIDE / 8.0, extent: SIDE / 4.0 };
+    let mut all = lines::<oracle::space::Plane, 2>(plane);
+    all.extend(lines::<oracle::space::Solid, 3>(solid));
+    all
 }

@@ -40,13 +40,11 @@ pub mod quadtree {
 /// assert_eq!(tree.insert(Point3D { z: 9.0, ..fault }), Err(Refusal::Outside));
 /// # Ok::<(), Refusal>(())
 /// ```
-#[cfg(feature = "octree")]
 pub mod octree {
     names!(3, Octree, Point3D { x, y, z }, Cube { width, height, depth });
 }
 
 pub use generic::{Bulk, MOST_POINTS};
-#[cfg(feature = "octree")]
 pub use octree::{Cube, Octree, Point3D};
 pub use quadtree::{bytes, calls, points, Pieces, Point2D, Quadtree, Rectangle};
 pub use reply::{Refusal, Reply};

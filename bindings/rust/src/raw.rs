@@ -229,7 +229,6 @@ functions! {
     quadtree_range_search, quadtree_range_search_bbox, quadtree_knn_search,
 }
 
-#[cfg(feature = "octree")]
 functions! {
     3: crate::Point3D, [x, y, z], [width, height, depth];
     head 56, nodes 5248, points 16416;

@@ -56,6 +56,4 @@ macro_rules! named {
 }
 
 named!(quadtree, Quadtree, Point2D[x, y], Rectangle[width, height], 40, 5504, 12312);
-
-#[cfg(feature = "octree")]
 named!(octree, Octree, Point3D[x, y, z], Cube[width, height, depth], 56, 5248, 16416);

@@ -11,7 +11,6 @@ impl Kind<2> for Library {
     type Space = oracle::space::Plane;
 }
 
-#[cfg(feature = "octree")]
 impl Kind<3> for Library {
     type Space = oracle::space::Solid;
 }

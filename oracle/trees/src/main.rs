@@ -154,9 +154,8 @@ where
 fn main() -> ExitCode {
     let passed = match words() {
         Some((Tree::Quadtree, millions)) => compare::<2>(millions),
-        #[cfg(feature = "octree")]
         Some((Tree::Octree, millions)) => compare::<3>(millions),
-        _ => {
+        None => {
             eprintln!("oracle: the words are quadtree or octree, and a number of millions of calls");
             return ExitCode::from(2);
         }

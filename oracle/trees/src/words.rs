@@ -15,7 +15,7 @@ impl FromStr for Tree {
     fn from_str(word: &str) -> Result<Tree, ()> {
         match word {
             "quad" | "quadtree" => Ok(Tree::Quadtree),
-            "oct" | "octree" if cfg!(feature = "octree") => Ok(Tree::Octree),
+            "oct" | "octree" => Ok(Tree::Octree),
             _ => Err(()),
         }
     }

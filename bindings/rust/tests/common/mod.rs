@@ -5,7 +5,7 @@
 use ralikudo::generic::{Axes, Library, Pieces, Point, Tree, Volume};
 use ralikudo::Refusal;
 
-/// Runs tests for the quadtree, and for the octree where it is linked.
+/// Runs tests for both trees.
 #[macro_export]
 macro_rules! both {
     ($($name:ident),* $(,)?) => {
@@ -13,7 +13,6 @@ macro_rules! both {
             $(#[test] fn $name() { super::$name::<2>() })*
         }
 
-        #[cfg(feature = "octree")]
         mod octree {
             $(#[test] fn $name() { super::$name::<3>() })*
         }

@@ -191,9 +191,8 @@ where
 fn main() -> ExitCode {
     let passed = match words() {
         Some((Tree::Quadtree, millions)) => ask_all::<2>("quadtree", millions),
-        #[cfg(feature = "octree")]
         Some((Tree::Octree, millions)) => ask_all::<3>("octree", millions),
-        _ => {
+        None => {
             eprintln!("oracle: the words are quadtree or octree, and a number of millions of damaged pieces");
             return ExitCode::from(2);
         }
