@@ -1,9 +1,9 @@
 -- A value plus something that is not below zero is no smaller; and half of an extent moves a corner no further than the extent. Assumes nothing.
 use mathlib.Core.Path.{_≡_, refl, sym, ap, _∙_}
-use Prim.Native.Nat.{ℕ, zero, _+_, _*_, _^_, _≤_}
+use Prim.Native.Nat.{ℕ, _+_, _*_, _^_, _≤_}
 use native.Mathlib.Nat.{le-trans, le-refl, le-of-eq, mul-pos, sub-zero, zero-sub}
 use native.Mathlib.Omega.{arith}
-use mathlib.Core.Bool.{Bool, true, false, not, cond}
+use mathlib.Core.Bool.{Bool, true, false, cond}
 use lib.IntN.{ℤ}
 use lib.Dec.{T, lit≤}
 use lib.Pow.{pow-pos}

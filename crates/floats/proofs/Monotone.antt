@@ -1,10 +1,10 @@
 -- Sums, differences and squares keep the order, over all signs, both zeros and the infinities. Assumes nothing.
 use mathlib.Core.Path.{_≡_, refl, sym, ap, _∙_, subst}
 use mathlib.Core.Logic.{_⊎_, inl, inr}
-use Prim.Native.Nat.{ℕ, zero, suc, _+_, _-_, _*_, _^_, _≤_}
+use Prim.Native.Nat.{ℕ, suc, _+_, _-_, _*_, _^_, _≤_}
 use native.Mathlib.Nat.{lt-of-le-of-lt, le-trans, le-refl, le-of-eq, lt-of-lt-of-le, lt-irrefl, mul-le-mul, mul-pos, mul-mul-mul-comm}
 use native.Mathlib.Omega.{arith}
-use mathlib.Core.Bool.{Bool, true, false, not}
+use mathlib.Core.Bool.{Bool, true, false}
 use lib.IntN.{ℤ}
 use lib.Dec.{T}
 use lib.Pow.{pow-pos}

@@ -382,13 +382,17 @@ pub eq→le : (x y : Float) → T (eq x y) → T (le x y)
 unfolding le
 eq→le x y h = or-r (lt x y) (eq x y) h
 
-both : (a b : Bool) → (T a → T b) → (T b → T a) → a ≡ b
-both true true h k = refl
-both true false h k = absurd (h tt)
-both false true h k = absurd (k tt)
-both false false h k = refl
+pub same-answer : (a b : Bool) → (T a → T b) → (T b → T a) → a ≡ b
+same-answer true true h k = refl
+same-answer true false h k = absurd (h tt)
+same-answer false true h k = absurd (k tt)
+same-answer false false h k = refl
+
+pub not-not : (b : Bool) → T (not (not b)) → T b
+not-not true h = tt
+not-not false h = h
 
 -- equal values stand on the same side of every third one
 pub le-eq : (f : Format) (z x y : Float) → T (fits f z) → T (fits f x) → T (fits f y) → T (eq x y) → le z x ≡ le z y
 le-eq f z x y r p q h =
-    both (le z x) (le z y) (λ l. le-transitive f z x y r p q l (eq→le x y h)) (λ l. le-transitive f z y x r q p l (eq→le y x (eq-symmetric f x y p q h)))
+    same-answer (le z x) (le z y) (λ l. le-transitive f z x y r p q l (eq→le x y h)) (λ l. le-transitive f z y x r q p l (eq→le y x (eq-symmetric f x y p q h)))

@@ -14,7 +14,7 @@ use lib.Ieee.Scale.{overflow, finite}
 use Rattle.floats.specs.Values.{plusZero}
 use Rattle.floats.specs.Next.{nextUp}
 use Rattle.floats.specs.Span.{short, lengthened, span}
-use Rattle.floats.proofs.Order.{mag, P, N, zero-mag, zero-fits, lt→key, key→lt, lt→nle, lt-is, nat-total}
+use Rattle.floats.proofs.Order.{mag, P, N, zero-mag, zero-fits, lt→key, key→lt, lt→nle, lt-is, nat-total, not-not}
 use Rattle.floats.proofs.Rounding.{G, G-mono, G-zero, G-fixed, exact, add-key, sub-key}
 use Rattle.floats.proofs.Monotone.{one-sided, Nonneg, nonneg-not-bottom, rounded-le, le-top, finite-num, add-num-l}
 use Rattle.floats.proofs.Half.{self-rounded}
@@ -147,10 +147,6 @@ reaches-false f lo hi len q h = go (short f lo hi len) (short-says f lo hi len)
     go : (b : Bool) → (T b → Short f lo hi len) → b ≡ false
     go true s = absurd (lt→nle f (add f lo len) hi (add-fits f lo len) q (s tt .below) h)
     go false s = refl
-
-not-not : (b : Bool) → T (not (not b)) → T b
-not-not true h = tt
-not-not false h = h
 
 -- ---- two finite edges in order, with a finite difference
 pub record Edges (f : Format) (lo hi : Float) : Type 0 where

@@ -1,15 +1,16 @@
 -- The distance that a candidate must beat. Assumes nothing.
 use mathlib.Core.Path.{_≡_, refl, ap, ap₂, sym, subst, _∙_}
-use mathlib.Core.Logic.{_≢_}
+use mathlib.Core.Logic.{_≢_, inl, inr}
 use mathlib.Core.Bool.{Bool, true, false, not, _&&_}
 use mathlib.Core.List.{List, [], _∷_}
 use Prim.Native.Nat.{ℕ, zero, suc, _-_, _<_, _≤_, min}
 use native.Mathlib.Omega.{arith}
 use lib.ListN.{length, getD, take, length-take}
 use lib.Seq.{take-nil}
-use lib.Dec.{T, ltb, ltb→lt, nltb→le}
+use lib.Dec.{T, ltb}
 use borrow.Author.Tests.{lt-ltb, le-ltb}
 use lib.Ieee.{Float, nan, inf, fin, binary64, lt, nanBits, ofBits}
+use Rattle.floats.proofs.Order.{nat-total}
 use Rattle.floats.proofs.Patterns.{inf-bits}
 use Rattle.model.specs.Searches.{worst}
 use Rattle.knn.specs.Candidates.{bar, entries, lastOr, room}
@@ -71,23 +72,17 @@ not-above (inf true) = refl
 not-above (inf false) = refl
 not-above (fin s m e) = refl
 
-by-lt : {C : Type 0} (m n : ℕ) → (m < n → C) → (n ≤ m → C) → C
-by-lt {C} m n f g = go (ltb m n) (ltb→lt m n) (nltb→le m n)
-  where
-    go : (b : Bool) → (T b → m < n) → (T (not b) → n ≤ m) → C
-    go true a b = f (a tt)
-    go false a b = g (b tt)
-
 -- with l entries and room for m
 skip-of : (n : ℕ) (ds : List Float) (ps : List ℕ) (x : Float) (l m : ℕ) → 1 ≤ m → l ≤ length ds → l ≤ length ps → take n ds ≡ take l ds → entries n ds ps ≡ entries l ds ps → length (take n ds) ≡ l → length (entries n ds ps) ≡ l
     → lt (bar m (take n ds)) x ≡ not (ltb (length (entries n ds ps)) m) && worst (λ w. lt w x) (entries n ds ps)
-skip-of n ds ps x l m one ld lp et ee here there = by-lt l m
-    (λ h. ap (λ (w : Float). lt w x) (bar-room m (take n ds) (omega (arith, h, here))) ∙ not-above x
-    ∙ ap₂ (λ (b c : Bool). not b && c) (sym (lt-ltb (length (entries n ds ps)) m (omega (arith, h, there)))) refl)
-    (λ h. let s : l ≡ suc (l - 1) = omega (arith, h, one) in
-    ap (λ (w : Float). lt w x) (bar-full m (take n ds) (omega (arith, h, here)) ∙ ap (lastOr (inf true)) (et ∙ ap (λ (j : ℕ). take j ds) s) ∙ last-taken (inf true) (l - 1) ds (omega (arith, s, ld)))
-    ∙ ap₂ (λ (b c : Bool). not b && c) (sym (le-ltb (length (entries n ds ps)) m (omega (arith, h, there))))
-    (sym (ap (worst (λ w. lt w x)) (ee ∙ ap (λ (j : ℕ). entries j ds ps) s) ∙ entries-worst (λ w. lt w x) (l - 1) ds ps (omega (arith, s, ld)) (omega (arith, s, lp)))))
+skip-of n ds ps x l m one ld lp et ee here there = elim (nat-total m l) [
+  | inr h ↦ ap (λ (w : Float). lt w x) (bar-room m (take n ds) (omega (arith, h, here))) ∙ not-above x
+      ∙ ap₂ (λ (b c : Bool). not b && c) (sym (lt-ltb (length (entries n ds ps)) m (omega (arith, h, there)))) refl
+  | inl h ↦ let s : l ≡ suc (l - 1) = omega (arith, h, one) in
+      ap (λ (w : Float). lt w x) (bar-full m (take n ds) (omega (arith, h, here)) ∙ ap (lastOr (inf true)) (et ∙ ap (λ (j : ℕ). take j ds) s) ∙ last-taken (inf true) (l - 1) ds (omega (arith, s, ld)))
+      ∙ ap₂ (λ (b c : Bool). not b && c) (sym (le-ltb (length (entries n ds ps)) m (omega (arith, h, there))))
+      (sym (ap (worst (λ w. lt w x)) (ee ∙ ap (λ (j : ℕ). entries j ds ps) s) ∙ entries-worst (λ w. lt w x) (l - 1) ds ps (omega (arith, s, ld)) (omega (arith, s, lp))))
+]
 
 pub skip-is : (n k : ℕ) (ds : List Float) (ps : List ℕ) (x : Float) → length ds ≡ length ps → 1 ≤ room k ds ps
     → lt (bar (min (min k 512) (length ds)) (take n ds)) x ≡ not (ltb (length (entries n ds ps)) (room k ds ps)) && worst (λ w. lt w x) (entries n ds ps)

@@ -7,6 +7,7 @@ use Prim.Native.Nat.{ℕ, suc}
 use lib.ListN.{length}
 use lib.Dec.{T, ltb, T-not, not-T}
 use lib.Ieee.{Float, nan, inf, fin, binary64, le, lt, eq, isNan}
+use lib.Ieee.Bits.{is-true}
 use Rattle.floats.proofs.Order.{le-transitive, lt→le, lt→nle, num?}
 use Rattle.floats.proofs.Theorems.{NoNan, equal-reflexive, order-strict}
 use Rattle.model.specs.Searches.{At, less, place, offer, worst}
@@ -18,12 +19,8 @@ use Rattle.model.proofs.Nearest.{less-lt, nless-nlt, not-lt, place-all, drop-al
 use Rattle.knn.specs.Candidates.{ahead, settle, offered, InOrder}
 
 -- ---- the order by IEEE 754's comparisons: two of them, and one is the same for every neighbour
-yes : (t : Bool) → T t → t ≡ true
-yes true h = refl
-yes false h = absurd h
-
 self : (x : Float) → F64 x → NoNan x → eq x x ≡ true
-self x p u = yes (eq x x) (equal-reflexive x p u)
+self x p u = is-true (eq x x) (equal-reflexive x p u)
 
 two : (x y : Float) → F64 x → F64 y → NoNan x → NoNan y → eq x x && not (le y x) ≡ lt x y || false
 two x y p q u v = ap (λ (t : Bool). t && not (le y x)) (self x p u) ∙ sym (order-strict x y p q u v) ∙ or-no (lt x y)

@@ -9,7 +9,7 @@ use lib.ListN.{length, length-append}
 use lib.Dec.{T, leb, ltb, eqb, eqb→eq}
 use lib.Ieee.{Float, binary64, eq}
 use lib.Ieee.Fits.{and-l, and-r}
-use Rattle.floats.proofs.Order.{eq-symmetric, eq-transitive}
+use Rattle.floats.proofs.Order.{eq-symmetric, eq-transitive, same-answer}
 use Rattle.model.specs.Boxes.{Side, acceptable, inside, onEach, samePlace}
 use Rattle.model.specs.Calls.{Ask, Box, Bulk, Call, Clear, Contains, Create, Delete, Insert, IsEmpty, Kind, Len, Nearest, Outcome, Plan, Query, Radius, State, ask, badBoundary, broken, bulkCall, call, create, done, empty, full, give, misfit, noCapacity, noNodes, noRoom, number, onBroken, refuse, searchCall, step, tree, with-root}
 use Rattle.model.specs.History.{Ledger, blank, bulkStores, done?, entered, ledger, run}
@@ -26,15 +26,9 @@ use Rattle.model.proofs.Skip.{all-f64, all-none, f64-all, none-all}
 use Rattle.model.proofs.Sound.{F64Point, deleted-tally, f64-of, inserted-tally}
 
 -- ---- equality of points is an equivalence away from NaN: what equals p stands to every q as p does
-same-test : (a b : Bool) → (T a → T b) → (T b → T a) → a ≡ b
-same-test true true h k = refl
-same-test true false h k = absurd (h tt)
-same-test false true h k = absurd (k tt)
-same-test false false h k = refl
-
 eq-swap : (q x p : Float) → F64 q → F64 x → F64 p → T (eq p x) → eq q x ≡ eq q p
 eq-swap q x p fq fx fp h =
-    same-test (eq q x) (eq q p) (λ l. eq-transitive binary64 q x p fq fx fp l (eq-symmetric binary64 p x fp fx h)) (λ l. eq-transitive binary64 q p x fq fp fx l h)
+    same-answer (eq q x) (eq q p) (λ l. eq-transitive binary64 q x p fq fx fp l (eq-symmetric binary64 p x fp fx h)) (λ l. eq-transitive binary64 q p x fq fp fx l h)
 
 place-swap : (q x p : List Float) → All F64 q → All F64 x → All F64 p → T (samePlace p x) → samePlace q x ≡ samePlace q p
 unfolding samePlace onEach

@@ -14,7 +14,7 @@ use Rattle.model.specs.Boxes.{Side, mid, part, route, turn}
 use Rattle.model.specs.Searches.{keep}
 use Rattle.model.specs.Soundness.{Each}
 use Rattle.model.specs.Trees.{Node, Point, Tree, bag, branch, held, into, joined, leaf, same, total}
-use Rattle.model.proofs.Lists.{each-get, each-set, flatten-set, from, one-if, tally, tally-append, tally-true}
+use Rattle.model.proofs.Lists.{each-get, each-set, flatten-set, from, no-out, one-if, tally, tally-append, tally-true}
 use Rattle.model.proofs.Short.{deal, deleteS, first, goes, insertS, mergeS, taken, withoutS}
 
 -- ---- tests
@@ -196,12 +196,8 @@ module _ (w cap : ℕ) where
       let i = route b (p .at) in
       (omega (arith, insert-count d (part b i) p t (strays b i) (part-ways b i e) (k .1), k .0, stays i), g)
     where
-      none : (t : Bool) → T t → one-if (not t) ≡ 0
-      none true h = refl
-      none false h = absurd h
-
       stays : (i : ℕ) → one-if (not (eqb i i)) ≡ 0
-      stays i = none (eqb i i) (eqb-refl i)
+      stays i = no-out (eqb i i) (eqb-refl i)
 
   layer-good : (d : ℕ) (b : List Side) (p : Point) (ts : List (Tree d)) → 2 ^ length b ≡ w → length ts ≡ w → Each (GoodChild w cap d b) 0 ts
       → cap ≤ length (flatten (map (held d) ts))

@@ -16,7 +16,7 @@ use Rattle.model.proofs.Counts.{Good, GoodChild, Order, chosen, cond-sa
 use Rattle.model.proofs.Inside.{F64, mid-held}
 use Rattle.model.proofs.Lists.{flatten-set, one-if, tally, tally-append}
 use Rattle.model.proofs.Short.{containsS, filled, first, goes, taken}
-use Rattle.model.proofs.Skip.{all-f64, f64-all}
+use Rattle.model.proofs.Skip.{all-f64, f64-all, none-more}
 
 -- ---- equal places go the same way
 same-route : (b : List Side) (xs ys : List Float) → All F64 xs → All F64 ys → T (samePlace xs ys) → route b xs ≡ route b ys
@@ -57,14 +57,10 @@ elsewhere : (b : List Side) (i : ℕ) (p : Point) (ps : List Point) → All F64 
 unfolding tally
 elsewhere b i p [] h n s f = refl
 elsewhere b i p (q ∷ qs) h n s f =
-    let x = split (goes b i q) (tally (strays b i) qs) s in
-    let y = split (all-f64 (q .at)) (tally (λ q. not (all-f64 (q .at))) qs) f in
+    let x = none-more (goes b i q) (tally (strays b i) qs) s in
+    let y = none-more (all-f64 (q .at)) (tally (λ q. not (all-f64 (q .at))) qs) f in
     no (same p q) (tally (same p) qs) (λ m. n (same-route b (p .at) (q .at) h (f64-all (q .at) (y .0)) (unfold same in and-l (samePlace (p .at) (q .at)) (eqb (p .payload) (q .payload)) m) ∙ eqb→eq (route b (q .at)) i (x .0))) (elsewhere b i p qs h n (x .1) (y .1))
   where
-    split : (t : Bool) (n : ℕ) → one-if (not t) + n ≡ 0 → T t × (n ≡ 0)
-    split true n h = (tt, omega arith)
-    split false n h = absurd (omega arith)
-
     no : (t : Bool) (n : ℕ) → (T t → ⊥) → n ≡ 0 → one-if t + n ≡ 0
     no true n h k = absurd (h tt)
     no false n h k = omega arith

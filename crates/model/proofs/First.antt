@@ -9,6 +9,7 @@ use lib.ListN.{length-map, length, take, length-append, length-take}
 use lib.Seq.{take-at, take-nil, take-all, take-take}
 use lib.Dec.{T, ltb, T-not, not-T, ltb→lt, nltb→le, lt→ltb}
 use lib.Ieee.{Float, nan, binary64, le, lt, eq, isNan}
+use lib.Ieee.Bits.{is-true}
 use Rattle.floats.proofs.Order.{eq-symmetric, eq-transitive, eq→le, le-nan, le-nums, lt→nle, nat-total}
 use Rattle.model.specs.Boxes.{Side, nodeDistance, squared}
 use Rattle.model.specs.Searches.{At, Entry, entry, keep, less, nearest, offer, offerEach, place, placeEach, visit, worst}
@@ -31,10 +32,6 @@ by-distance c ps = map (λ (e : Entry). e .item) (placeEach [] (map (entry c) ps
 last-tail : (f : Float → Bool) (y : Entry) (ys : List Entry) → T (f (y .dist)) → worst f (y ∷ ys) ≡ worst f ys
 unfolding worst
 last-tail f y [] h = is-true (f (y .dist)) h
-  where
-    is-true : (t : Bool) → T t → t ≡ true
-    is-true true h = refl
-    is-true false h = absurd h
 last-tail f y (z ∷ zs) h = refl
 
 suc-test : (m n : ℕ) → ltb (suc m) (suc n) ≡ ltb m n

@@ -7,7 +7,7 @@ use mathlib.Core.Bool.{Bool, true, false, _&&_, cond}
 use mathlib.Core.List.{List, [], _∷_}
 use lib.IntN.{pos}
 use lib.Dec.{T, eqb, lit≤}
-use lib.Ieee.{Float, fin, binary64, add, div, le, fits}
+use lib.Ieee.{Float, fin, binary64, add, div, le}
 use lib.Ieee.Fits.{and-i, and-l, and-r, add-fits}
 use Rattle.floats.specs.Values.{plusZero, two}
 use Rattle.floats.specs.Span.{span}
@@ -15,12 +15,9 @@ use Rattle.floats.proofs.Order.{le-nums, le-transitive, le-total}
 use Rattle.floats.proofs.Monotone.{Nonneg, le→nonneg}
 use Rattle.floats.proofs.Half.{midplane}
 use Rattle.floats.proofs.Bounds.{Within, within-finite, within-up, pow-fits, add-within, Reach, span-reach}
+pub use Rattle.floats.proofs.Theorems.{F64}
 use Rattle.model.specs.Boxes.{Side, far, holds, inside, mid, turn, route, half, part, bounded, acceptable}
 use Rattle.model.specs.Soundness.{All}
-
--- a value that an f64 can have
-abbrev pub F64 : Float → Type 0
-F64 x = T (fits binary64 x)
 
 abbrev pub F64Side : Side → Type 0
 F64Side s = F64 (s .corner) × F64 (s .extent)

@@ -2,9 +2,10 @@
 use Prim.Native.Nat.{ℕ, zero, suc, _+_, _<_}
 use native.Mathlib.Omega.{arith}
 use mathlib.Core.Path.{_≡_, refl, sym, subst}
-use mathlib.Core.Bool.{Bool, true, cond}
+use mathlib.Core.Bool.{Bool, true, false, not, cond}
 use mathlib.Core.List.{List, [], _∷_, _++_, map, flatten}
 use lib.ListN.{length, getD, set}
+use lib.Dec.{T}
 use Rattle.model.specs.Soundness.{All, Each}
 
 -- f of every element and its place
@@ -19,6 +20,10 @@ from i (suc n) = i ∷ from (suc i) n
 
 abbrev pub one-if : Bool → ℕ
 one-if t = cond t 1 0
+
+pub no-out : (t : Bool) → T t → one-if (not t) ≡ 0
+no-out true h = refl
+no-out false h = absurd h
 
 -- how many pass the test
 unfoldable pub tally : {A : Type 0} → (A → Bool) → List A → ℕ

@@ -8,15 +8,12 @@ use mathlib.Core.List.{List, [], _∷_, _++_, map, flatten}
 use lib.ListN.{length, getD, set}
 use borrow.Author.Tests.{le-ltb}
 use lib.Dec.{T, leb, ltb, T-not, lt→ltb}
+use lib.Ieee.Fits.{and-l, and-r}
 use Rattle.model.specs.Boxes.{Side, part, route}
 use Rattle.model.specs.Searches.{keep}
-use Rattle.model.specs.Trees.{Node, Point, Tree, bag, branch, held, into, leaf, nodes, total}
+use Rattle.model.specs.Trees.{Node, Point, Tree, bag, branch, every, held, into, leaf, nodes, total}
 use Rattle.model.proofs.Counts.{Good, chosen, cond-same, deal-length, in-range, keep-length, part-ways}
 use Rattle.model.proofs.Short.{deal, deleteS, goes, insertS, mergeS}
-
-unfoldable pub every : {A : Type 0} → (A → Bool) → List A → Bool
-every f [] = true
-every f (x ∷ xs) = f x && every f xs
 
 -- how often an undivided node with this list splits
 unfoldable pub splits : (cap d : ℕ) → List Side → Point → List Point → ℕ
@@ -35,16 +32,11 @@ needed cap (suc d) b p (leaf ps) = splits cap (suc d) b p ps
 needed cap (suc d) b p (branch ts) = needed cap d (part b (route b (p .at))) p (getD ts (route b (p .at)) (bag d []))
 
 -- ---- keep
-and-both : (a b : Bool) → T (a && b) → T a × T b
-and-both true b h = (tt, h)
-and-both false b h = absurd h
-
 keep-every : {A : Type 0} (g : A → Bool) (xs : List A) → T (every g xs) → keep g xs ≡ xs
 unfolding keep every
 keep-every g [] h = refl
 keep-every {A} g (x ∷ xs) h =
-    let z = and-both (g x) (every g xs) h in
-    cond-same (λ (l : List A). l ≡ x ∷ xs) (g x) (x ∷ keep g xs) (keep g xs) (λ l. ap {B = List A} (λ l. x ∷ l) (keep-every g xs (z .1))) (λ l. absurd (T-not (g x) l (z .0)))
+    cond-same (λ (l : List A). l ≡ x ∷ xs) (g x) (x ∷ keep g xs) (keep g xs) (λ l. ap {B = List A} (λ l. x ∷ l) (keep-every g xs (and-r (g x) (every g xs) h))) (λ l. absurd (T-not (g x) l (and-l (g x) (every g xs) h)))
 
 keep-fewer : {A : Type 0} (g : A → Bool) (xs : List A) → T (not (every g xs)) → length (keep g xs) < length xs
 unfolding keep every

@@ -14,7 +14,7 @@ use lib.IntN.{pos}
 use Rattle.floats.specs.Values.{plusZero}
 use Rattle.floats.proofs.Bounds.{Within, pow-fits, within-finite}
 use Rattle.floats.proofs.Monotone.{Nonneg}
-use Rattle.floats.proofs.Order.{le-transitive, lt→nle, nan-le, num?, zero-fits}
+use Rattle.floats.proofs.Order.{le-transitive, lt→nle, nan-le, not-not, num?, zero-fits}
 use Rattle.model.specs.Boxes.{Side, added, addedTo, axisDistance, axisSq, differenceSq, far, holds, inside, meets, nodeDistance, part, route, square, squared}
 use Rattle.model.specs.Searches.{box, keep, near, radius, within}
 use Rattle.model.specs.Soundness.{All, Each}
@@ -22,7 +22,7 @@ use Rattle.model.specs.Trees.{Point, Tree, branch, held, leaf}
 use Rattle.model.proofs.Counts.{Good, GoodChild, part-length}
 use Rattle.model.proofs.Distance.{Finite, Number, node-under}
 use Rattle.model.proofs.Inside.{Bounded, F64, F64Side, far-held, part-bounded, part-inside}
-use Rattle.model.proofs.Lists.{mapi, one-if, tally, tally-append}
+use Rattle.model.proofs.Lists.{mapi, no-out, one-if, tally, tally-append}
 use Rattle.model.proofs.Meet.{shared-meet}
 use Rattle.model.proofs.Short.{goes}
 
@@ -78,18 +78,17 @@ lies-part j b i p r g h k =
     (subst (λ (n : ℕ). T (inside (part b n) (p .at))) (eqb→eq (route b (p .at)) i k) (part-inside j b (p .at) r g (lies-held b p h) (lies-inside b p h)))
 
 -- ---- counts of nothing
-none : (t : Bool) (n : ℕ) → one-if (not t) + n ≡ 0 → T t × (n ≡ 0)
-none true n h = (tt, omega arith)
-none false n h = absurd (omega arith)
+pub none-more : (t : Bool) (n : ℕ) → one-if (not t) + n ≡ 0 → T t × (n ≡ 0)
+none-more true n h = (tt, omega arith)
+none-more false n h = absurd (omega arith)
 
 some : (t : Bool) (n : ℕ) → T t → n ≡ 0 → one-if (not t) + n ≡ 0
-some true n h k = omega arith
-some false n h k = absurd h
+some t n h k = omega (arith, no-out t h)
 
 pub none-all : {A : Type 0} (f : A → Bool) (xs : List A) → tally (λ x. not (f x)) xs ≡ 0 → All (λ x. T (f x)) xs
 unfolding tally
 none-all f [] h = tt
-none-all f (x ∷ xs) h = let z = none (f x) (tally (λ x. not (f x)) xs) h in (z .0, none-all f xs (z .1))
+none-all f (x ∷ xs) h = let z = none-more (f x) (tally (λ x. not (f x)) xs) h in (z .0, none-all f xs (z .1))
 
 pub all-none : {A : Type 0} (f : A → Bool) (xs : List A) → All (λ x. T (f x)) xs → tally (λ x. not (f x)) xs ≡ 0
 unfolding tally
@@ -100,8 +99,8 @@ pub none-both : {A : Type 0} (f g k : A → Bool) (xs : List A) → ((x : A) →
 unfolding tally
 none-both f g k [] m h l = refl
 none-both f g k (x ∷ xs) m h l =
-    let a = none (f x) (tally (λ x. not (f x)) xs) h in
-    let b = none (g x) (tally (λ x. not (g x)) xs) l in
+    let a = none-more (f x) (tally (λ x. not (f x)) xs) h in
+    let b = none-more (g x) (tally (λ x. not (g x)) xs) l in
     some (k x) (tally (λ x. not (k x)) xs) (m x (a .0) (b .0)) (none-both f g k xs m (a .1) (b .1))
 
 -- ---- keep
@@ -302,10 +301,6 @@ squared-held (x ∷ xs) (v ∷ c) = added-held (differenceSq x v) (zipWith diffe
 beyond : (W : Type 0) (x y r : Float) → F64 x → F64 y → F64 r → Below W x y → T (lt r x) → T (le y r) → ⊥
 beyond W x y r p q s (inl u) h k = lt→nle binary64 r x s p h (le-transitive binary64 x y r p q s (u .1) k)
 beyond W x y r p q s (inr e) h k = subst (λ (t : Bool). T t) (nan-le r) (subst (λ (z : Float). T (le z r)) (e .1) k)
-
-not-not : (t : Bool) → T (not (not t)) → T t
-not-not true h = tt
-not-not false h = h
 
 radius-misses : (m : ℕ) (c : List Float) (rr : Float) → length c ≡ m → All F64 c → F64 rr → Misses m (λ n. not (lt rr (nodeDistance n c))) (near c rr)
 unfolding near

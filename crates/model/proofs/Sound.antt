@@ -1,8 +1,8 @@
 -- Soundness, clause by clause, against the form that the laws use; insert and delete keep it. Over any number of axes and any merge order. Assumes nothing.
 use Prim.Native.Nat.{ℕ, zero, suc, _+_, _^_}
 use native.Mathlib.Omega.{arith}
-use mathlib.Core.Path.{_≡_, refl, ap, sym, _∙_, subst}
-use mathlib.Core.Bool.{Bool, true, false, not}
+use mathlib.Core.Path.{_≡_, ap, sym, _∙_, subst}
+use mathlib.Core.Bool.{Bool}
 use mathlib.Core.List.{List, [], _∷_}
 use lib.ListN.{length}
 use lib.Dec.{T, eqb→eq, lit≤}
@@ -14,7 +14,7 @@ use Rattle.model.specs.Soundness.{All, AllOrNone, BranchesFull, Each, Le
 use Rattle.model.specs.Trees.{Point, Tree, branch, count, delete, held, insert, leaf}
 use Rattle.model.proofs.Counts.{Good, GoodChild, Order, delete-count, delete-good, insert-count, insert-good, strays}
 use Rattle.model.proofs.Inside.{Bounded, F64, F64Side, acceptable-bounded}
-use Rattle.model.proofs.Lists.{all-map, one-if, tally}
+use Rattle.model.proofs.Lists.{all-map, no-out, one-if, tally}
 use Rattle.model.proofs.Same.{Placed, delete-is, given, insert-is}
 use Rattle.model.proofs.Short.{deleteS, filled, goes, insertS, taken}
 use Rattle.model.proofs.Skip.{all-f64, all-none, lies, lies-held, lies-inside, lies-of, none-all, out}
@@ -116,10 +116,6 @@ outer k a t s g h =
       leaves-fit = c .2;
       branches-full = c .3;
     }
-
-no-out : (t : Bool) → T t → one-if (not t) ≡ 0
-no-out true h = refl
-no-out false h = absurd h
 
 -- a point inside the boundary, at its root
 pub placed : (k : Kind) (a : Plan) (p : Point) → Inner k a → F64Point p → T (inside (a .boundary) (p .at)) → Placed (ways k) (a .capacity) 32 501 (a .boundary) p (a .root)

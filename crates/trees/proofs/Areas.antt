@@ -12,7 +12,7 @@ use borrow.Author.Tests.{not-true, not-false, eqb-true, eqb-false, eq-eqb, ne-eq
 use lib.ListN.{length}
 use lib.IntN.{pos}
 use lib.Ieee.{Float, nan, fin, binary64, neg, le, lt, eq, ne, fits, ofBits, nanBits}
-use lib.Ieee.Bits.{ofBits-fits}
+use lib.Ieee.Bits.{is-true, ofBits-fits}
 use lib.Ieee.Fits.{neg-fits}
 use Rattle.floats.specs.Values.{plusZero}
 use lib.Ieee.Compare.{differs-from-itself}
@@ -22,7 +22,7 @@ use Rattle.floats.proofs.Patterns.{same-no-nan, zero-bits}
 use Rattle.model.specs.Boxes.{Side, far, onEach, holds, inside, mid, turn, route, bounded, acceptable}
 use Rattle.model.specs.Soundness.{All}
 use Rattle.model.proofs.Inside.{F64, F64Side, mid-held}
-use Rattle.trees.proofs.Tests.{and-true, fails, true-of}
+use Rattle.trees.proofs.Tests.{and-true, fails}
 
 -- at least low, at most the boundary's edge, and not at or above top; a top that is no number bounds nothing
 pub record Bound : Type 0 where
@@ -112,19 +112,19 @@ module _ (l m v : Float) (fl : F64 l) (fm : F64 m) (fv : F64 v) where
   unfolding higher
   higher-is = by-test (le l m || ne m m)
       (λ e. ap (λ (t : Bool). le (cond t m l) v) e ∙ or-true (le l m) (ne m m) e
-      (λ h. more-and (le l v) (le m v) (λ k. true-of (le-transitive binary64 l m v fl fm fv (holds-of h) (holds-of k))))
+      (λ h. more-and (le l v) (le m v) (λ k. is-true _ (le-transitive binary64 l m v fl fm fv (holds-of h) (holds-of k))))
       (λ h. more-and (le l v) (le m v) (λ k. fails k (self-nan m h v))))
       (λ e. ap (λ (t : Bool). le (cond t m l) v) e ∙ and-more (le l v) (le m v) (λ k. let o = or-left (le l m) (ne m m) e in
-      true-of (past l m v fl fm fv (holds-of k) (num-of m (same-no-nan m (o .1))) (o .0))))
+      is-true _ (past l m v fl fm fv (holds-of k) (num-of m (same-no-nan m (o .1))) (o .0))))
 
   pub lower-is : not (le (lower l m) v) ≡ not (le l v) && not (le m v)
   unfolding lower
   lower-is = by-test (lt m l || ne l l)
       (λ e. ap (λ (t : Bool). not (le (cond t m l) v)) e ∙ or-true (lt m l) (ne l l) e
-      (λ h. stons (le l v) (le m v) (λ k. true-of (le-transitive binary64 m l v fm fl fv (lt→le m l (holds-of h)) (holds-of k))))
+      (λ h. stons (le l v) (le m v) (λ k. is-true _ (le-transitive binary64 m l v fm fl fv (lt→le m l (holds-of h)) (holds-of k))))
       (λ h. stons (le l v) (le m v) (λ k. fails k (self-nan l h v))))
       (λ e. ap (λ (t : Bool). not (le (cond t m l) v)) e ∙ nots (le l v) (le m v) (λ k. let o = or-left (lt m l) (ne l l) e in
-      true-of (le-transitive binary64 l m v fl fm fv (holds-of (not-false (le l m) (sym (lt-is binary64 m l fm fl (le-nums m v (holds-of k) .0) (num-of l (same-no-nan l (o .1)))) ∙ o .0))) (holds-of k))))
+      is-true _ (le-transitive binary64 l m v fl fm fv (holds-of (not-false (le l m) (sym (lt-is binary64 m l fm fl (le-nums m v (holds-of k) .0) (num-of l (same-no-nan l (o .1)))) ∙ o .0))) (holds-of k))))
 
 swap : (a b c d : Bool) → (a && b) && (c && d) ≡ (a && c) && (b && d)
 swap true true c d = refl
@@ -286,8 +286,8 @@ limit-held = ofBits-fits binary64 0x5f30_0000_0000_0000
 -- equal values stand on the same side
 eq-le : (x y v : Float) → F64 x → F64 y → F64 v → T (eq x y) → le x v ≡ le y v
 eq-le x y v fx fy fv e = by-test (le x v)
-    (λ h. h ∙ sym (true-of (le-transitive binary64 y x v fy fx fv (eq→le y x (eq-symmetric binary64 x y fx fy e)) (holds-of h))))
-    (λ h. h ∙ by-test (le y v) (λ k. fails (true-of (le-transitive binary64 x y v fx fy fv (eq→le x y e) (holds-of k))) h) (λ k. sym k))
+    (λ h. h ∙ sym (is-true _ (le-transitive binary64 y x v fy fx fv (eq→le y x (eq-symmetric binary64 x y fx fy e)) (holds-of h))))
+    (λ h. h ∙ by-test (le y v) (λ k. fails (is-true _ (le-transitive binary64 x y v fx fy fv (eq→le x y e) (holds-of k))) h) (λ k. sym k))
 
 bounded-is : (v : Float) → F64 v → le (neg limit) v && le v limit ≡ bounded v
 unfolding bounded

@@ -12,9 +12,9 @@ use lib.Ieee.{Float}
 use lib.ListN.{length, getD, List·getD-map, length-map}
 use borrow.Author.Tests.{eq-eqb, le-ltb, ne-eqb}
 use Rattle.model.specs.Boxes.{Side, part, route}
-use Rattle.model.specs.Trees.{Point, bag}
+use Rattle.model.specs.Trees.{Point, bag, every}
 use Rattle.model.proofs.Counts.{part-length, route-lt}
-use Rattle.model.proofs.Room.{every, splits, splits-room}
+use Rattle.model.proofs.Room.{splits, splits-room}
 use Rattle.model.proofs.Short.{first, goes, taken}
 use Rattle.pool.specs.Lists.{ifz, occ}
 use Rattle.pool.specs.Read.{chain}

@@ -9,6 +9,7 @@ use native.Mathlib.Nat.{mul-le-mul-left}
 use lib.Dec.{T, eqb}
 use borrow.Author.Tests.{not-true, not-false, eq-eqb, eqb-true}
 use lib.ListN.{length, getD, length-map, replicate, length-replicate}
+use lib.Ieee.Bits.{is-true}
 use Rattle.model.specs.Boxes.{Side, part, route, inside, acceptable}
 use Rattle.model.specs.Trees.{Point, held}
 use Rattle.model.specs.Calls.{Kind, ways, Plan}
@@ -35,7 +36,7 @@ use Rattle.trees.proofs.Held.{boundary-f64, boundary-length, links-long
 use Rattle.trees.proofs.Heads.{both, Measured, measured-as}
 use Rattle.trees.proofs.Checks.{Tested, Proper, Found, Checks, Sized}
 use Rattle.trees.proofs.Marks.{Linked, Listed, Walks, AllMet, always, Frees, FreedPlaces, FreedGroups, Rest}
-use Rattle.trees.proofs.Tests.{fails, no-true, true-of}
+use Rattle.trees.proofs.Tests.{fails, no-true}
 
 -- ---- every point of a tree with place numbers
 module _ (P : ℕ → Type 0) where
@@ -114,10 +115,10 @@ module _ (ways cap axes : ℕ) (pt : ℕ → Point) (n x : List ℕ) (ew : 2 ^ a
     into-part q = narrowed-lies b a (pt q .at) c (la ∙ sym lb) (reg q .0 ∙ sym lb) fa (reg q .1) (omega (arith, lc, ew, ap (λ (e : ℕ). 2 ^ e) lb))
 
     from-part : (q : ℕ) → Lying (narrowed b a c) q → Lying a q × Routes b c q
-    from-part q h = let e = both (lies a (pt q .at)) (eqb (route b (pt q .at)) c) (sym (into-part q) ∙ true-of h) in (subst T (sym (e .0)) tt, eqb-true (route b (pt q .at)) c (e .1))
+    from-part q h = let e = both (lies a (pt q .at)) (eqb (route b (pt q .at)) c) (sym (into-part q) ∙ is-true _ h) in (subst T (sym (e .0)) tt, eqb-true (route b (pt q .at)) c (e .1))
 
     to-part : (q : ℕ) → Lying a q → Routes b c q → Lying (narrowed b a c) q
-    to-part q h e = subst T (sym (into-part q ∙ ap₂ (λ (u v : Bool). u && v) (true-of {t = lies a (pt q .at)} h) (eq-eqb (route b (pt q .at)) c e))) tt
+    to-part q h e = subst T (sym (into-part q ∙ ap₂ (λ (u v : Bool). u && v) (is-true (lies a (pt q .at)) h) (eq-eqb (route b (pt q .at)) c e))) tt
 
   pub record Properly (d : ℕ) (b : List Side) (a : List Bound) (t : PTree d) : Type 0 where
     pub lying : Everywhere (Lying a) d t
@@ -417,7 +418,7 @@ module _ (k : Kind) (s : Pieces) (rows : ℕ) (er : k .most ≡ suc (ways k * ro
   sound-fits r m e = measured-as k rows s r er m .sure (not-false r e)
 
   pub sound-boundary : (b : List Side) → b ≡ bounds → acceptable b ≡ false → Decides false (Sane k s)
-  sound-boundary b eb e0 = let e : acceptable bounds ≡ false = sym (ap acceptable eb) ∙ e0 in not-sane (λ q. fails (true-of {t = acceptable bounds} (subst (λ (a : Plan). T (acceptable (a .boundary))) (q .holds .plan) (q .holds .sound .boundary .0))) e)
+  sound-boundary b eb e0 = let e : acceptable bounds ≡ false = sym (ap acceptable eb) ∙ e0 in not-sane (λ q. fails (is-true (acceptable bounds) (subst (λ (a : Plan). T (acceptable (a .boundary))) (q .holds .plan) (q .holds .sound .boundary .0))) e)
 
   pub sound-capacity : (c : ℕ) → c ≡ cap → c ≡ 0 → Decides false (Sane k s)
   sound-capacity c ec e0 = let e : cap ≡ 0 = sym ec ∙ e0 in not-sane (λ q. absurd (omega (arith, e, subst (λ (a : Plan). 1 ≤ a .capacity) (q .holds .plan) (q .holds .sound .capacity))))

@@ -3,10 +3,6 @@ use mathlib.Core.Path.{_≡_, refl, sym, _∙_, subst}
 use mathlib.Core.Bool.{Bool, true, false, _&&_}
 use lib.Dec.{T}
 
-pub true-of : {t : Bool} → T t → t ≡ true
-true-of {t = true} h = refl
-true-of {t = false} h = absurd h
-
 pub fails : {C : Type 0} {t : Bool} → t ≡ true → t ≡ false → C
 fails e h = absurd (subst T (sym e ∙ h) tt)
 
