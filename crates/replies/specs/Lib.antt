@@ -1,0 +1,3 @@
+-- What the command programs print. Definitions only.
+pub mod Lines
+pub mod Programs

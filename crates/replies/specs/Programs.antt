@@ -1,0 +1,34 @@
+-- What the code of a command program does: bytes written to a lent slice, the tree that its pieces hold, and how far it is in its input. Definitions only.
+use mathlib.Core.Path.{_≡_}
+use mathlib.Core.Bool.{Bool, true, false}
+use mathlib.Core.List.{List, [], _∷_, _++_}
+use mathlib.Core.Option.{Option}
+use Prim.Native.Nat.{ℕ, _+_}
+use lib.ListN.{length}
+use lib.Seq.{sets}
+use Rattle.model.specs.Calls.{Kind, State, misfit, broken, tree, Call}
+use Rattle.trees.specs.Pieces.{Pieces, Fits, Says}
+use Rattle.record.specs.Input.{records}
+use Rattle.replies.specs.Lines.{answer, lines, state}
+
+-- from the index at on these bytes were written, and r is the index after them; the rest is as before
+abbrev pub Wrote : (before : List ℕ) (at : ℕ) (bytes after : List ℕ) (r : ℕ) → Type 0
+Wrote before at bytes after r = (r ≡ at + length bytes) × (after ≡ sets before at bytes)
+
+-- the pieces hold the program's tree; before the first creation there is none, and they only have their lengths
+abbrev pub Keeps : Kind → (held : Bool) → Pieces → State → Type 0
+Keeps k held s misfit = ⊥
+Keeps k held s broken = (held ≡ false) × Fits k s
+Keeps k held s (tree a) = (held ≡ true) × Says k s (tree a)
+
+-- a record was answered
+unfoldable pub Answers : Kind → Option Call → (held : Bool) → Pieces → (held' : Bool) → Pieces → (out : List ℕ) (at : ℕ) (out' : List ℕ) (r : ℕ) → Type 0
+unfolding answer
+Answers k c held s held' s' out at out' r = (a : State) → Keeps k held s a → Wrote out at (answer k a c .line) out' r × Keeps k held' s' (answer k a c .state)
+
+-- The beginning of an input was answered, whatever comes after it: `rest` is left, and is the very start or not.
+pub record Fed (k : Kind) (of : List ℕ → Option Call) (a : State) (start : Bool) (text : List ℕ) (a' : State) (start' : Bool) (rest printed : List ℕ) : Type 0 where
+  pub said : List (Option Call)
+  pub same : (more : List ℕ) → records of start (text ++ more) ≡ said ++ records of start' (rest ++ more)
+  pub printed-is : printed ≡ lines k a said
+  pub state-is : a' ≡ state k a said

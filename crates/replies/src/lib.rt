@@ -1,0 +1,1 @@
+// The lines of answers, for either program.
