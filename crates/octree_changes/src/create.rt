@@ -11,7 +11,10 @@ ghost use Rattle.trees.specs.Pieces.{pieces, Does, DoesHeld};
 ghost use Rattle.trees.proofs.Puts.{putHead};
 use geometry::space::Cube;
 use octree::head::accepts;
+use pieces::Creation;
+use pieces::decide;
 use pieces::fits;
+use pieces::reply;
 use words::put;
 use words::put_float;
 
@@ -43,7 +46,7 @@ fn empty(nodes: &mut [u8], links: &mut [u8])
     groups::clear(nodes, links, 8, 1);
 }
 
-// Makes an empty tree in any pieces: 0, or 8 where a piece has a wrong length, 3 for capacity 0, 4 for a boundary that is not taken.
+// Makes an empty tree in any pieces, once the answer is known, so that a refusal leaves them as they were: 0, or 8 where a piece has a wrong length, 3 for capacity 0, 4 for a boundary that is not taken.
 pub fn create(
     head: &mut [u8],
     nodes: &mut [u8],
@@ -62,9 +65,6 @@ pub fn create(
     if !fits(3, 8, 40, head, nodes, links, points) {
         return 8;
     }
-    if capacity == 0 {
-        return 3;
-    }
     let bounds = Cube {
         x,
         y,
@@ -73,10 +73,11 @@ pub fn create(
         height,
         depth,
     };
-    if !accepts(bounds) {
-        return 4;
-    }
-    put_head(head, x, y, z, width, height, depth, capacity);
+    let answer = decide(accepts(bounds), capacity);
+    let Creation::Made(most) = answer else {
+        return reply(answer);
+    };
+    put_head(head, x, y, z, width, height, depth, most);
     empty(nodes, links);
     0
 }

@@ -1,4 +1,4 @@
-// What is read from the pieces of either tree without looking at a coordinate: their lengths, the capacity, how many points are held, a payload.
+// What is read from the pieces of either tree without looking at a coordinate: their lengths, the capacity, how many points are held, a payload; and the answer of a creation.
 // Each contract is over any kind of tree or any number of axes.
 ghost use mathlib.Core.Path.{_≡_};
 ghost use mathlib.Core.List.{List};
@@ -8,6 +8,7 @@ ghost use Rattle.model.specs.Calls.{IsEmpty, Kind, Len};
 ghost use Rattle.trees.specs.Points.{pointAt};
 ghost use Rattle.trees.specs.Pieces.{AsksHeld, capacityOf, pieces};
 ghost use Rattle.trees.proofs.Heads.{Measured};
+ghost use Rattle.pieces.specs.Creations.{creationOf, replyOf};
 use pool::count;
 use words::get;
 
@@ -64,4 +65,33 @@ pub fn payload(axes: u8, points: &[u8], p: u32) -> u32
 {
     let from = base(axes, p);
     get(points, 2 * from + 2 * (axes as usize))
+}
+
+// The answer of a creation: the capacity of the tree that is to be made, or the number of the refusal.
+pub enum Creation {
+    Made(u32),
+    Refused(u32),
+}
+
+// Decides a creation before anything is written.
+pub fn decide(acceptable: bool, capacity: u32) -> Creation
+    ensures { λ r. ⌜ r ≡ creationOf acceptable capacity ⌝ }
+{
+    if capacity == 0 {
+        return Creation::Refused(3);
+    }
+    if !acceptable {
+        return Creation::Refused(4);
+    }
+    Creation::Made(capacity)
+}
+
+// The reply number of a creation.
+pub fn reply(answer: Creation) -> u32
+    ensures { λ r. ⌜ r ≡ replyOf answer ⌝ }
+{
+    match answer {
+        Creation::Made(_) => 0,
+        Creation::Refused(number) => number,
+    }
 }

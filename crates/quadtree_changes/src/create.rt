@@ -10,7 +10,10 @@ ghost use Rattle.pool.specs.Writes.{pool};
 ghost use Rattle.trees.specs.Pieces.{pieces, Does, DoesHeld};
 ghost use Rattle.trees.proofs.Puts.{putHead};
 use geometry::plane::Rectangle;
+use pieces::Creation;
+use pieces::decide;
 use pieces::fits;
+use pieces::reply;
 use quadtree::head::accepts;
 use words::put;
 use words::put_float;
@@ -32,7 +35,7 @@ fn empty(nodes: &mut [u8], links: &mut [u8])
     groups::clear(nodes, links, 4, 1);
 }
 
-// Makes an empty tree in any pieces: 0, or 8 where a piece has a wrong length, 3 for capacity 0, 4 for a boundary that is not taken.
+// Makes an empty tree in any pieces, once the answer is known, so that a refusal leaves them as they were: 0, or 8 where a piece has a wrong length, 3 for capacity 0, 4 for a boundary that is not taken.
 pub fn create(
     head: &mut [u8],
     nodes: &mut [u8],
@@ -49,19 +52,17 @@ pub fn create(
     if !fits(2, 4, 85, head, nodes, links, points) {
         return 8;
     }
-    if capacity == 0 {
-        return 3;
-    }
     let bounds = Rectangle {
         x,
         y,
         width,
         height,
     };
-    if !accepts(bounds) {
-        return 4;
-    }
-    put_head(head, x, y, width, height, capacity);
+    let answer = decide(accepts(bounds), capacity);
+    let Creation::Made(most) = answer else {
+        return reply(answer);
+    };
+    put_head(head, x, y, width, height, most);
     empty(nodes, links);
     0
 }

@@ -1,0 +1,2 @@
+-- What is proved of `pieces`.
+pub mod Creations

@@ -1,0 +1,2 @@
+-- What the answers of `pieces` say. Definitions only.
+pub mod Creations
