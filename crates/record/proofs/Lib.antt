@@ -1,0 +1,2 @@
+-- Laws of the definitions, for the proofs of the code and of the programs.
+pub mod Digits
