@@ -1,2 +1,4 @@
 -- Laws of the definitions, for the proofs of the code and of the programs.
 pub mod Digits
+pub mod Parts
+pub mod Streams
