@@ -2,3 +2,4 @@
 pub mod Digits
 pub mod Parts
 pub mod Streams
+pub mod Kept
