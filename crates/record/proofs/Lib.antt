@@ -3,3 +3,4 @@ pub mod Digits
 pub mod Parts
 pub mod Streams
 pub mod Kept
+pub mod Words
