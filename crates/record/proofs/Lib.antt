@@ -4,3 +4,4 @@ pub mod Parts
 pub mod Streams
 pub mod Kept
 pub mod Words
+pub mod Reading

@@ -51,11 +51,12 @@ strip-none (b ∷ s) h = absurd (omega arith)
 pub stands : (start : Bool) (s : List ℕ) (from n : ℕ) → from ≤ length s → drop from s ≡ begun start s
     → n ≤ length (take (length s - from) (drop from s)) → take n (take (length s - from) (drop from s)) ≡ strip (take (length s - from) (drop from s))
     → (from ≤ from + n) × (from + n ≤ length s) × (leb n 128 ≡ leb (length (strip (begun start s))) 128) × (take (from + n - from) (drop from s) ≡ strip (begun start s))
-stands start s from n h e l t =
-    (omega arith,
-      omega (arith, ap length (rest-is s from), length-drop from s),
-      ap (λ (k : ℕ). leb k 128) (sym (length-take-le n (drop from s) (omega (arith, ap length (rest-is s from)))) ∙ ap length got),
-      ap (λ (k : ℕ). take k (drop from s)) {x = from + n - from} {y = n} (omega arith) ∙ got)
+stands start s from n h e l t = (
+  omega arith,
+  omega (arith, ap length (rest-is s from), length-drop from s),
+  ap (λ (k : ℕ). leb k 128) (sym (length-take-le n (drop from s) (omega (arith, ap length (rest-is s from)))) ∙ ap length got),
+  ap (λ (k : ℕ). take k (drop from s)) {x = from + n - from} {y = n} (omega arith) ∙ got,
+)
   where
     got : take n (drop from s) ≡ strip (begun start s)
     got = ap (take n) (sym (rest-is s from)) ∙ t ∙ ap strip (rest-is s from ∙ e)

@@ -108,10 +108,11 @@ fn first_float(t: &[u8]) -> Number
     if t.len() < 16 {
         return Number::Not;
     }
-    if t.len() > 16 {
-        if t[16] != b',' {
-            return Number::Not;
-        }
+    if t.len() == 16 {
+        return number_of(t);
+    }
+    if t[16] != b',' {
+        return Number::Not;
     }
     number_of(&t[0..16])
 }

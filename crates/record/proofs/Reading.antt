@@ -1,0 +1,178 @@
+-- Laws of the numbers after a word, as the code reads them: floats in steps of 17 bytes, and the last field whole. Assumes nothing.
+use Prim.Native.Nat.{ℕ, zero, suc, _+_, _-_, _≤_, _<_, suc-le-suc}
+use mathlib.Core.Path.{_≡_, refl, sym, ap, ap₂, _∙_, subst}
+use mathlib.Core.Bool.{Bool, true, false, _&&_, _||_, and-false}
+use mathlib.Core.List.{List, [], _∷_}
+use mathlib.Core.Option.{Option, none, some}
+use native.Mathlib.Nat.{not-suc-le-zero, le-of-suc-le-suc}
+use native.Mathlib.Numerals.{add-one, unary-clauses}
+use native.Mathlib.Omega.{arith}
+use lib.ListN.{length, getD, take, drop, set, length-drop, length-set, drop-of-length-le}
+use lib.Seq.{sets, drop-drop, getD-take, length-take-le, take-all}
+use lib.Dec.{T, eqb, ltb}
+use lib.Ieee.{Float}
+use borrow.Author.Tests.{eq-eqb, ne-eqb, eqb-true, eqb-false, le-ltb}
+use Rattle.record.specs.Text.{split, has}
+use Rattle.record.specs.Numbers.{digit, digits, numberOf, wholeOf}
+use Rattle.record.specs.Commands.{Numbers, numbersOf}
+use Rattle.record.specs.Read.{floatIn, wholeIn, rest, Reads}
+use Rattle.record.specs.declared.numbers.Number.the-variants as number
+use Rattle.record.specs.declared.numbers.Whole.{Whole}
+use Rattle.record.specs.declared.numbers.Whole.the-variants as whole
+use Rattle.record.proofs.Digits.{number-short, number-bad, whole-bad}
+use Rattle.record.proofs.Parts.{by-lt, rest-is, split-found, split-none, split-some, split-rest}
+
+-- ---- bytes that are no digits
+
+by-or : {A : Type 0} (a b : Bool) → a || b ≡ true → (a ≡ true → A) → (b ≡ true → A) → A
+by-or true b e f g = f refl
+by-or false b e f g = g e
+
+pub digits-without : (base c : ℕ) → base ≤ 16 → digit c ≡ 16 → (s : List ℕ) → has c s ≡ true → digits base s ≡ false
+unfolding has digits
+digits-without base c h d [] e = sym e
+digits-without base c h d (b ∷ s) e =
+    by-or (eqb b c) (has c s) e
+    (λ q. let z : digit b ≡ 16 = ap digit (eqb-true b c q) ∙ d in simp (le-ltb (digit b) base (omega arith)))
+    (λ q. simp (digits-without base c h d s q, and-false))
+
+or-true : (a : Bool) → a || true ≡ true
+or-true true = refl
+or-true false = refl
+
+has-at : (c : ℕ) (s : List ℕ) (i : ℕ) → i < length s → getD s i 0 ≡ c → has c s ≡ true
+unfolding has
+has-at c [] i h e = absurd (not-suc-le-zero h)
+has-at c (b ∷ s) zero h e = simp (eq-eqb b c e)
+has-at c (b ∷ s) (suc i) h e = simp (has-at c s i (le-of-suc-le-suc h) e, or-true)
+
+comma : digit 44 ≡ 16
+unfolding digit
+comma = refl
+
+-- ---- the first comma
+
+record Cut (t : List ℕ) : Type 0 where
+  e : ℕ
+  within : e ≤ length t
+  before : (k : ℕ) → k < e → getD t k 0 ≡ 44 → ⊥
+  found : e < length t → getD t e 0 ≡ 44
+
+cut : (t : List ℕ) → Cut t
+cut [] = record { e = 0; within = omega arith; before = λ k h. absurd (not-suc-le-zero h); found = λ h. absurd (not-suc-le-zero h) }
+cut (b ∷ t) = go (eqb b 44) refl (cut t)
+  where
+    go : (q : Bool) → eqb b 44 ≡ q → Cut t → Cut (b ∷ t)
+    go true q c = record { e = 0; within = omega arith; before = λ k h. absurd (not-suc-le-zero h); found = λ h. eqb-true b 44 q }
+    go false q c = record { e = suc (c .e); within = suc-le-suc (c .within); before = later; found = λ h. c .found (le-of-suc-le-suc h) }
+      where
+        later : (k : ℕ) → k < suc (c .e) → getD (b ∷ t) k 0 ≡ 44 → ⊥
+        later zero h = eqb-false b 44 q
+        later (suc k) h = c .before k (le-of-suc-le-suc h)
+
+split-cut : (t : List ℕ) (c : Cut t) → split 44 t ≡ take (c .e) t ∷ rest (drop (c .e) t)
+split-cut t c = split-rest t (c .e) (c .within) (c .before) (c .found)
+
+first-cut : (t : List ℕ) (c : Cut t) → getD (split 44 t) 0 [] ≡ take (c .e) t
+first-cut t c = ap (λ (ps : List (List ℕ)). getD ps 0 []) (split-cut t c)
+
+-- ---- a float
+
+number-length : (s : List ℕ) (x : Float) → numberOf s ≡ some x → (length s ≡ 16 → ⊥) → ⊥
+number-length s x e h = let z : _≡_ {A = ℕ} 0 1 = (let q : none ≡ some x = number-short s h ∙ e in cc) in omega arith
+
+first-not : (t : List ℕ) (c : Cut t) → (c .e ≡ 16 → ⊥) → none ≡ numberOf (getD (split 44 t) 0 [])
+first-not t c h = number-short (take (c .e) t) (λ l. h (sym (length-take-le (c .e) t (c .within)) ∙ l)) ∙ ap numberOf (sym (first-cut t c))
+
+pub first-short : (t : List ℕ) → length t < 16 → none ≡ numberOf (getD (split 44 t) 0 [])
+first-short t h = let c = cut t in first-not t c (λ e. omega (arith, c .within))
+
+pub first-long : (t : List ℕ) → 16 < length t → (getD t 16 0 ≡ 44 → ⊥) → none ≡ numberOf (getD (split 44 t) 0 [])
+first-long t h f = let c = cut t in first-not t c (λ e. f (ap (λ (k : ℕ). getD t k 0) (sym e) ∙ c .found (omega arith)))
+
+pub first-even : (t : List ℕ) → 16 ≤ length t → (16 < length t → getD t 16 0 ≡ 44) → numberOf (take 16 t) ≡ numberOf (getD (split 44 t) 0 [])
+first-even t h f = go (cut t)
+  where
+    go : Cut t → numberOf (take 16 t) ≡ numberOf (getD (split 44 t) 0 [])
+    go c =
+        by-lt (c .e) 16
+        (λ l. sym (number-bad (take 16 t) (digits-without 16 44 (omega arith) comma (take 16 t) (has-at 44 (take 16 t) (c .e) (omega (arith, length-take-le 16 t h)) (getD-take 16 t (c .e) 0 l ∙ c .found (omega arith)))))
+        ∙ first-not t c (λ e. omega arith))
+        (λ l. by-lt 16 (c .e)
+        (λ m. absurd (c .before 16 m (f (omega (arith, c .within)))))
+        (λ m. ap numberOf (ap (λ (k : ℕ). take k t) {x = 16} {y = c .e} (omega arith) ∙ sym (first-cut t c))))
+
+pub first-all : (t : List ℕ) → length t ≡ 16 → numberOf t ≡ numberOf (getD (split 44 t) 0 [])
+first-all t h = ap numberOf (sym (take-all 16 t (omega arith))) ∙ first-even t (omega arith) (λ l. absurd (omega arith))
+
+-- ---- the whole number
+
+no : {A : Type 0} → false ≡ true → A
+no e = absurd (subst T (sym e) tt)
+
+yes : {A : Type 0} → true ≡ false → A
+yes e = absurd (subst T e tt)
+
+pub last-missing : (due : Bool) (s : List ℕ) → due ≡ true → length s ≡ 0 → (l : List Float) → Reads (numbersOf 0 due (rest s)) whole.Not l l
+unfolding Reads numbersOf rest
+last-missing true [] e h l = refl
+last-missing true (b ∷ s) e h l = absurd (omega arith)
+last-missing false s e h l = no e
+
+numbers-more : (ps : List (List ℕ)) → (ps ≡ [] → ⊥) → none ≡ numbersOf 0 false ps
+unfolding numbersOf
+numbers-more [] h = absurd (h refl)
+numbers-more (p ∷ ps) h = refl
+
+pub last-more : (due : Bool) (s : List ℕ) → due ≡ false → 0 < length s → (l : List Float) → Reads (numbersOf 0 due (rest s)) whole.Not l l
+unfolding Reads rest
+last-more true s e h l = yes e
+last-more false [] e h l = absurd (not-suc-le-zero h)
+last-more false (b ∷ s) e h l = subst (λ (o : Option Numbers). Reads o whole.Not l l) (numbers-more (split 44 s) (split-some 44 s)) refl
+
+pub last-end : (due : Bool) (s : List ℕ) → due ≡ false → length s ≤ 0 → (l : List Float) → Reads (numbersOf 0 due (rest s)) (whole.Value 0) l l
+unfolding Reads numbersOf rest
+last-end true s e h l = yes e
+last-end false [] e h l = (refl, refl)
+last-end false (b ∷ s) e h l = absurd (not-suc-le-zero h)
+
+numbers-two : (p : List ℕ) (ps : List (List ℕ)) → (ps ≡ [] → ⊥) → none ≡ numbersOf 0 true (p ∷ ps)
+unfolding numbersOf
+numbers-two p [] h = absurd (h refl)
+numbers-two p (q ∷ ps) h = refl
+
+-- what one field makes
+whole-only : Option ℕ → Option Numbers
+whole-only none = none
+whole-only (some n) = some (record { floats = []; whole = n })
+
+numbers-one : (p : List ℕ) → whole-only (wholeOf p) ≡ numbersOf 0 true (p ∷ [])
+unfolding numbersOf whole-only
+numbers-one p = go (wholeOf p)
+  where
+    go : (o : Option ℕ) → whole-only o ≡ elim o [ none ↦ none | some n ↦ some (record { floats = []; whole = n }) ]
+    go none = refl
+    go (some n) = refl
+
+whole-reads : (r : Whole) (l : List Float) → Reads (whole-only (wholeIn r)) r l l
+unfolding Reads whole-only wholeIn
+whole-reads (whole.Value n) l = (refl, refl)
+whole-reads whole.Not l = refl
+
+-- a comma is no digit, so what has one is no number
+whole-last : (t : List ℕ) (r : Whole) → wholeIn r ≡ wholeOf t → whole-only (wholeIn r) ≡ numbersOf 0 true (split 44 t)
+unfolding whole-only
+whole-last t r e = go (cut t)
+  where
+    go : Cut t → whole-only (wholeIn r) ≡ numbersOf 0 true (split 44 t)
+    go c =
+        by-lt (c .e) (length t)
+        (λ l. ap whole-only (e ∙ sym (whole-bad t (digits-without 10 44 (omega arith) comma t (has-at 44 t (c .e) l (c .found l)))))
+        ∙ numbers-two (take (c .e) t) (split 44 (drop (c .e + 1) t)) (split-some 44 (drop (c .e + 1) t)) ∙ ap (numbersOf 0 true) (sym (split-found 44 t (c .e) l (c .before) (c .found l))))
+        (λ l. ap whole-only e ∙ numbers-one t ∙ ap (numbersOf 0 true) (sym (split-none 44 t (c .e) l (c .before))))
+
+pub last-is : (due : Bool) (s : List ℕ) (r : Whole) → due ≡ true → (length s ≡ 0 → ⊥) → wholeIn r ≡ wholeOf (take (length s - 1) (drop 1 s)) → (l : List Float) → Reads (numbersOf 0 due (rest s)) r l l
+unfolding rest
+last-is false s r d h e l = no d
+last-is true [] r d h e l = absurd (h refl)
+last-is true (b ∷ s) r d h e l = subst (λ (o : Option Numbers). Reads o r l l) (whole-last s r (e ∙ ap wholeOf (rest-is (b ∷ s) 1))) (whole-reads r l)
