@@ -95,11 +95,11 @@ split-none c (b ∷ s) (suc e) h f = split-other c b s (f 0 (omega arith)) ∙ a
 
 -- ---- the first field and the others
 
-rest-drop : (s : List ℕ) (e : ℕ) → e < length s → rest (drop e s) ≡ split 44 (drop (e + 1) s)
+pub rest-drop : (s : List ℕ) (e : ℕ) → e < length s → rest (drop e s) ≡ split 44 (drop (e + 1) s)
 unfolding rest
 rest-drop s e h = rw (add-one, drop-cons s e 0)
 
-rest-none : (s : List ℕ) (e : ℕ) → length s ≤ e → rest (drop e s) ≡ []
+pub rest-none : (s : List ℕ) (e : ℕ) → length s ≤ e → rest (drop e s) ≡ []
 unfolding rest
 rest-none s e h = ap rest (drop-of-length-le s h)
 

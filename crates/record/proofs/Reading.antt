@@ -16,11 +16,12 @@ use Rattle.record.specs.Text.{split, has}
 use Rattle.record.specs.Numbers.{digit, digits, numberOf, wholeOf}
 use Rattle.record.specs.Commands.{Numbers, numbersOf}
 use Rattle.record.specs.Read.{floatIn, wholeIn, rest, Reads}
+use Rattle.record.specs.declared.numbers.Number.{Number}
 use Rattle.record.specs.declared.numbers.Number.the-variants as number
 use Rattle.record.specs.declared.numbers.Whole.{Whole}
 use Rattle.record.specs.declared.numbers.Whole.the-variants as whole
 use Rattle.record.proofs.Digits.{number-short, number-bad, whole-bad}
-use Rattle.record.proofs.Parts.{by-lt, rest-is, split-found, split-none, split-some, split-rest}
+use Rattle.record.proofs.Parts.{by-lt, rest-is, split-found, split-none, split-some, split-rest, rest-drop, rest-none}
 
 -- ---- bytes that are no digits
 
@@ -78,8 +79,15 @@ first-cut t c = ap (λ (ps : List (List ℕ)). getD ps 0 []) (split-cut t c)
 
 -- ---- a float
 
-number-length : (s : List ℕ) (x : Float) → numberOf s ≡ some x → (length s ≡ 16 → ⊥) → ⊥
-number-length s x e h = let z : _≡_ {A = ℕ} 0 1 = (let q : none ≡ some x = number-short s h ∙ e in cc) in omega arith
+number-length : (s : List ℕ) (x : Float) → numberOf s ≡ some x → length s ≡ 16
+number-length s x e = go (eqb (length s) 16) refl
+  where
+    not : none ≡ some x → ⊥
+    not q = let z : _≡_ {A = ℕ} 0 1 = cc in omega arith
+
+    go : (t : Bool) → eqb (length s) 16 ≡ t → length s ≡ 16
+    go true q = eqb-true (length s) 16 q
+    go false q = absurd (not (number-short s (eqb-false (length s) 16 q) ∙ e))
 
 first-not : (t : List ℕ) (c : Cut t) → (c .e ≡ 16 → ⊥) → none ≡ numberOf (getD (split 44 t) 0 [])
 first-not t c h = number-short (take (c .e) t) (λ l. h (sym (length-take-le (c .e) t (c .within)) ∙ l)) ∙ ap numberOf (sym (first-cut t c))
@@ -176,3 +184,158 @@ unfolding rest
 last-is false s r d h e l = no d
 last-is true [] r d h e l = absurd (h refl)
 last-is true (b ∷ s) r d h e l = subst (λ (o : Option Numbers). Reads o r l l) (whole-last s r (e ∙ ap wholeOf (rest-is (b ∷ s) 1))) (whole-reads r l)
+
+-- ---- floats one after the other
+
+-- what reading leaves from place k on
+pub Goes : ℕ → Option Numbers → Whole → (now after : List Float) → Type 0
+Goes k none r now after = r ≡ whole.Not
+Goes k (some m) r now after = (r ≡ whole.Value (m .whole)) × (after ≡ sets now k (m .floats))
+
+goes-reads : (o : Option Numbers) (r : Whole) (now after : List Float) → Goes 0 o r now after → Reads o r now after
+unfolding Goes Reads
+goes-reads none r now after g = g
+goes-reads (some m) r now after g = g
+
+-- no floats are left
+goes-last : (k : ℕ) (due : Bool) (fs : List (List ℕ)) (r : Whole) (now : List Float) → Reads (numbersOf 0 due fs) r now now → Goes k (numbersOf 0 due fs) r now now
+unfolding Goes Reads numbersOf whole-only
+goes-last k false [] r now g = (g .0, refl)
+goes-last k false (f ∷ fs) r now g = g
+goes-last k true [] r now g = g
+goes-last k true (f ∷ []) r now g = subst (λ (o : Option Numbers). Goes k o r now now) (numbers-one f) (go (wholeOf f) (subst (λ (o : Option Numbers). Reads o r now now) (sym (numbers-one f)) g))
+  where
+    go : (o : Option ℕ) → Reads (whole-only o) r now now → Goes k (whole-only o) r now now
+    go none g = g
+    go (some n) g = (g .0, refl)
+goes-last k true (f ∷ h ∷ fs) r now g = g
+
+-- one float more in front
+more : Float → Option Numbers → Option Numbers
+more x none = none
+more x (some m) = some (record { floats = x ∷ m .floats; whole = m .whole })
+
+goes-more : (k : ℕ) (x : Float) (o : Option Numbers) (r : Whole) (now after : List Float) → Goes (k + 1) o r (set now k x) after → Goes k (more x o) r now after
+unfolding Goes more
+goes-more k x none r now after g = g
+goes-more k x (some m) r now after g = (g .0, g .1 ∙ ap (λ (j : ℕ). sets (set now k x) j (m .floats)) (add-one k))
+
+numbers-step : (n : ℕ) (due : Bool) (f : List ℕ) (fs : List (List ℕ)) (x : Float) → numberOf f ≡ some x → more x (numbersOf n due fs) ≡ numbersOf (suc n) due (f ∷ fs)
+unfolding numbersOf more
+numbers-step n due f fs x e = rw (e, numbersOf) (go (numbersOf n due fs))
+  where
+    go : (o : Option Numbers) → more x o ≡ elim o [ none ↦ none | some m ↦ some (record { floats = x ∷ m .floats; whole = m .whole }) ]
+    go none = refl
+    go (some m) = refl
+
+numbers-bad : (n : ℕ) (due : Bool) (f : List ℕ) (fs : List (List ℕ)) → numberOf f ≡ none → none ≡ numbersOf (suc n) due (f ∷ fs)
+unfolding numbersOf
+numbers-bad n due f fs e = rw (e, numbersOf)
+
+numbers-none : (n : ℕ) (due : Bool) → 0 < n → none ≡ numbersOf n due []
+unfolding numbersOf
+numbers-none zero due h = absurd (not-suc-le-zero h)
+numbers-none (suc n) due h = refl
+
+-- ---- the fields from a comma on
+
+-- a float that was read has 16 bytes
+sixteen : (t : List ℕ) (c : Cut t) (x : Float) → numberOf (getD (split 44 t) 0 []) ≡ some x → c .e ≡ 16
+sixteen t c x e = sym (length-take-le (c .e) t (c .within)) ∙ number-length (take (c .e) t) x (ap numberOf (sym (first-cut t c)) ∙ e)
+
+fields : (t : List ℕ) (c : Cut t) → getD (split 44 t) 0 [] ∷ rest (drop (c .e) t) ≡ split 44 t
+fields t c = ap (λ (p : List ℕ). p ∷ rest (drop (c .e) t)) (first-cut t c) ∙ sym (split-cut t c)
+
+fields-room : (s : List ℕ) (at : ℕ) (x : Float) → at < length s → numberOf (getD (split 44 (drop (at + 1) s)) 0 []) ≡ some x → at + 17 ≤ length s
+fields-room s at x h e = go (cut (drop (at + 1) s))
+  where
+    go : Cut (drop (at + 1) s) → at + 17 ≤ length s
+    go c = omega (arith, sixteen (drop (at + 1) s) c x e, c .within, length-drop (at + 1) s)
+
+fields-step : (n : ℕ) (due : Bool) (s : List ℕ) (at : ℕ) (x : Float) → at < length s → numberOf (getD (split 44 (drop (at + 1) s)) 0 []) ≡ some x
+    → more x (numbersOf n due (rest (drop (at + 17) s))) ≡ numbersOf (suc n) due (rest (drop at s))
+fields-step n due s at x h e = go (cut (drop (at + 1) s))
+  where
+    go : Cut (drop (at + 1) s) → more x (numbersOf n due (rest (drop (at + 17) s))) ≡ numbersOf (suc n) due (rest (drop at s))
+    go c =
+        ap (λ (u : List ℕ). more x (numbersOf n due (rest u)))
+        (ap (λ (k : ℕ). drop k s) {x = at + 17} {y = at + 1 + c .e} (omega (arith, sixteen (drop (at + 1) s) c x e)) ∙ sym (drop-drop (c .e) (at + 1) s))
+        ∙ numbers-step n due (getD (split 44 (drop (at + 1) s)) 0 []) (rest (drop (c .e) (drop (at + 1) s))) x e
+        ∙ ap (numbersOf (suc n) due) (fields (drop (at + 1) s) c ∙ sym (rest-drop s at h))
+
+fields-bad : (n : ℕ) (due : Bool) (s : List ℕ) (at : ℕ) → at < length s → numberOf (getD (split 44 (drop (at + 1) s)) 0 []) ≡ none → none ≡ numbersOf (suc n) due (rest (drop at s))
+fields-bad n due s at h e = go (cut (drop (at + 1) s))
+  where
+    go : Cut (drop (at + 1) s) → none ≡ numbersOf (suc n) due (rest (drop at s))
+    go c = numbers-bad n due (getD (split 44 (drop (at + 1) s)) 0 []) (rest (drop (c .e) (drop (at + 1) s))) e ∙ ap (numbersOf (suc n) due) (fields (drop (at + 1) s) c ∙ sym (rest-drop s at h))
+
+-- what the code has read of the first field
+was-float : (s : List ℕ) (k : ℕ) (f : Number) (x : Float) → floatIn f ≡ numberOf (getD (split 44 (take (length s - k) (drop k s))) 0 []) → f ≡ number.Value x
+    → numberOf (getD (split 44 (drop k s)) 0 []) ≡ some x
+unfolding floatIn
+was-float s k f x e p = ap (λ (u : List ℕ). numberOf (getD (split 44 u) 0 [])) (sym (rest-is s k)) ∙ sym e ∙ ap floatIn p
+
+was-none : (s : List ℕ) (k : ℕ) (f : Number) → floatIn f ≡ numberOf (getD (split 44 (take (length s - k) (drop k s))) 0 []) → f ≡ number.Not → numberOf (getD (split 44 (drop k s)) 0 []) ≡ none
+unfolding floatIn
+was-none s k f e p = ap (λ (u : List ℕ). numberOf (getD (split 44 u) 0 [])) (sym (rest-is s k)) ∙ sym e ∙ ap floatIn p
+
+pub float-room : (s : List ℕ) (at : ℕ) (f : Number) (x : Float) → at < length s → floatIn f ≡ numberOf (getD (split 44 (take (length s - (at + 1)) (drop (at + 1) s))) 0 []) → f ≡ number.Value x → at + 17 ≤ length s
+float-room s at f x h e p = fields-room s at x h (was-float s (at + 1) f x e p)
+
+-- ---- the loop over the floats
+module _ (count : ℕ) (due : Bool) (s : List ℕ) (start : List Float) where
+  -- i floats are read, up to index `at`: whatever reading the others leaves, all is read
+  pub record Filling (now : List Float) (i at : ℕ) : Type 0 where
+    pub few : i ≤ count
+    pub within : at ≤ length s
+    pub same : length now ≡ length start
+    pub left : (r : Whole) (after : List Float) → Goes i (numbersOf (count - i) due (rest (drop at s))) r now after → Reads (numbersOf count due (rest s)) r start after
+
+  pub filling-start : Filling start 0 0
+  filling-start = record {
+    few = omega arith;
+    within = omega arith;
+    same = refl;
+    left = λ r after g. goes-reads (numbersOf count due (rest s)) r start after (subst (λ (n : ℕ). Goes 0 (numbersOf n due (rest s)) r start after) {x = count - 0} {y = count} (omega arith) g);
+  }
+
+  pub filling-step : (now : List Float) (i at : ℕ) (f : Number) (x : Float) → Filling now i at → i < count → at < length s
+      → floatIn f ≡ numberOf (getD (split 44 (take (length s - (at + 1)) (drop (at + 1) s))) 0 []) → f ≡ number.Value x → Filling (set now i x) (i + 1) (at + 17)
+  filling-step now i at f x q h l e p = record {
+    few = omega arith;
+    within = float-room s at f x l e p;
+    same = length-set now i x ∙ q .same;
+    left = λ r after g. q .left r after (subst (λ (o : Option Numbers). Goes i o r now after) turned (goes-more i x (numbersOf (count - (i + 1)) due (rest (drop (at + 17) s))) r now after g));
+  }
+    where
+      turned : more x (numbersOf (count - (i + 1)) due (rest (drop (at + 17) s))) ≡ numbersOf (count - i) due (rest (drop at s))
+      turned =
+          fields-step (count - (i + 1)) due s at x l (was-float s (at + 1) f x e p)
+          ∙ ap (λ (n : ℕ). numbersOf n due (rest (drop at s))) {x = suc (count - (i + 1))} {y = count - i} (omega arith)
+
+  filling-not : (now : List Float) (i at : ℕ) → Filling now i at → none ≡ numbersOf (count - i) due (rest (drop at s)) → Reads (numbersOf count due (rest s)) whole.Not start now
+  unfolding Goes
+  filling-not now i at q e = q .left whole.Not now (subst (λ (o : Option Numbers). Goes i o whole.Not now now) e refl)
+
+  -- there is no field left
+  pub filling-stop : (now : List Float) (i at : ℕ) → Filling now i at → i < count → length s ≤ at → Reads (numbersOf count due (rest s)) whole.Not start now
+  filling-stop now i at q h l = filling-not now i at q (numbers-none (count - i) due (omega arith) ∙ ap (numbersOf (count - i) due) (sym (rest-none s at l)))
+
+  -- the next field is no float
+  pub filling-bad : (now : List Float) (i at : ℕ) (f : Number) → Filling now i at → i < count → at < length s
+      → floatIn f ≡ numberOf (getD (split 44 (take (length s - (at + 1)) (drop (at + 1) s))) 0 []) → f ≡ number.Not → Reads (numbersOf count due (rest s)) whole.Not start now
+  filling-bad now i at f q h l e p =
+      filling-not now i at q
+      (fields-bad (count - (i + 1)) due s at l (was-none s (at + 1) f e p)
+      ∙ ap (λ (n : ℕ). numbersOf n due (rest (drop at s))) {x = suc (count - (i + 1))} {y = count - i} (omega arith))
+
+  pub filling-end : (now : List Float) (i at : ℕ) (r : Whole) → Filling now i at → count ≤ i → Reads (numbersOf 0 due (rest (take (length s - at) (drop at s)))) r now now
+      → Reads (numbersOf count due (rest s)) r start now
+  filling-end now i at r q h g =
+      q .left r now
+      (subst (λ (n : ℕ). Goes i (numbersOf n due (rest (drop at s))) r now now) {x = 0} {y = count - i} (omega arith)
+      (goes-last i due (rest (drop at s)) r now (subst (λ (u : List ℕ). Reads (numbersOf 0 due (rest u)) r now now) (rest-is s at) g)))
+
+-- how many floats and whether a whole number, as the code has them
+pub counted : {count n : ℕ} {due w : Bool} (fs : List (List ℕ)) (r : Whole) (before after : List Float) → count ≡ n → due ≡ w → Reads (numbersOf count due fs) r before after → Reads (numbersOf n w fs) r before after
+counted fs r before after e f g = subst (λ (o : Option Numbers). Reads o r before after) (ap₂ (λ (k : ℕ) (t : Bool). numbersOf k t fs) e f) g
