@@ -5,3 +5,4 @@ pub mod Streams
 pub mod Kept
 pub mod Words
 pub mod Reading
+pub mod Quotes

@@ -25,7 +25,7 @@ use Rattle.record.proofs.Parts.{by-lt, rest-is, split-found, split-none
 
 -- ---- bytes that are no digits
 
-by-or : {A : Type 0} (a b : Bool) → a || b ≡ true → (a ≡ true → A) → (b ≡ true → A) → A
+pub by-or : {A : Type 0} (a b : Bool) → a || b ≡ true → (a ≡ true → A) → (b ≡ true → A) → A
 by-or true b e f g = f refl
 by-or false b e f g = g e
 
@@ -115,7 +115,7 @@ first-all t h = ap numberOf (sym (take-all 16 t (omega arith))) ∙ first-even t
 
 -- ---- the whole number
 
-no : {A : Type 0} → false ≡ true → A
+pub no : {A : Type 0} → false ≡ true → A
 no e = absurd (subst T (sym e) tt)
 
 yes : {A : Type 0} → true ≡ false → A
@@ -211,7 +211,7 @@ goes-last k true (f ∷ []) r now g = subst (λ (o : Option Numbers). Goes k o r
 goes-last k true (f ∷ h ∷ fs) r now g = g
 
 -- one float more in front
-more : Float → Option Numbers → Option Numbers
+unfoldable pub more : Float → Option Numbers → Option Numbers
 more x none = none
 more x (some m) = some (record { floats = x ∷ m .floats; whole = m .whole })
 
@@ -220,7 +220,7 @@ unfolding Goes more
 goes-more k x none r now after g = g
 goes-more k x (some m) r now after g = (g .0, g .1 ∙ ap (λ (j : ℕ). sets (set now k x) j (m .floats)) (add-one k))
 
-numbers-step : (n : ℕ) (due : Bool) (f : List ℕ) (fs : List (List ℕ)) (x : Float) → numberOf f ≡ some x → more x (numbersOf n due fs) ≡ numbersOf (suc n) due (f ∷ fs)
+pub numbers-step : (n : ℕ) (due : Bool) (f : List ℕ) (fs : List (List ℕ)) (x : Float) → numberOf f ≡ some x → more x (numbersOf n due fs) ≡ numbersOf (suc n) due (f ∷ fs)
 unfolding numbersOf more
 numbers-step n due f fs x e = rw (e, numbersOf) (go (numbersOf n due fs))
   where
@@ -228,7 +228,7 @@ numbers-step n due f fs x e = rw (e, numbersOf) (go (numbersOf n due fs))
     go none = refl
     go (some m) = refl
 
-numbers-bad : (n : ℕ) (due : Bool) (f : List ℕ) (fs : List (List ℕ)) → numberOf f ≡ none → none ≡ numbersOf (suc n) due (f ∷ fs)
+pub numbers-bad : (n : ℕ) (due : Bool) (f : List ℕ) (fs : List (List ℕ)) → numberOf f ≡ none → none ≡ numbersOf (suc n) due (f ∷ fs)
 unfolding numbersOf
 numbers-bad n due f fs e = rw (e, numbersOf)
 
