@@ -83,5 +83,5 @@ keeps-none s from n end e h = (ap (sets s 0) got, ap length got)
     got = ap (λ (k : ℕ). take k (drop from s)) {x = 0} {y = min (min n (length s) - from) 133} (omega arith) ∙ kept-is s from n
 
 -- what is kept stands at the front
-pub kept-front : (s v : List ℕ) → length v ≤ length s → take (length v) (sets s 0 v) ≡ v
+pub kept-front : {A : Type 0} (s v : List A) → length v ≤ length s → take (length v) (sets s 0 v) ≡ v
 kept-front s v h = ap (take (length v)) (sets-eq v s 0 (omega arith)) ∙ take-at v (drop (0 + length v) s) (length v) refl

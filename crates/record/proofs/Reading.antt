@@ -21,6 +21,7 @@ use Rattle.record.specs.declared.numbers.Number.the-variants as number
 use Rattle.record.specs.declared.numbers.Whole.{Whole}
 use Rattle.record.specs.declared.numbers.Whole.the-variants as whole
 use Rattle.record.proofs.Digits.{number-short, number-bad, whole-bad}
+use Rattle.record.proofs.Kept.{kept-front}
 use Rattle.record.proofs.Parts.{by-lt, rest-is, split-found, split-none, split-some, split-rest, rest-drop, rest-none}
 
 -- ---- bytes that are no digits
@@ -339,3 +340,54 @@ module _ (count : ℕ) (due : Bool) (s : List ℕ) (start : List Float) where
 -- how many floats and whether a whole number, as the code has them
 pub counted : {count n : ℕ} {due w : Bool} (fs : List (List ℕ)) (r : Whole) (before after : List Float) → count ≡ n → due ≡ w → Reads (numbersOf count due fs) r before after → Reads (numbersOf n w fs) r before after
 counted fs r before after e f g = subst (λ (o : Option Numbers). Reads o r before after) (ap₂ (λ (k : ℕ) (t : Bool). numbersOf k t fs) e f) g
+
+-- ---- what was read, from the answer
+
+Long : ℕ → Option Numbers → Type 0
+Long n none = Unit {0}
+Long n (some m) = length (m .floats) ≡ n
+
+long-more : (n : ℕ) (x : Float) (o : Option Numbers) → Long n o → Long (suc n) (more x o)
+unfolding Long more
+long-more n x none h = h
+long-more n x (some m) h = ap suc h
+
+-- all floats are there
+long : (n : ℕ) (due : Bool) (fs : List (List ℕ)) → Long n (numbersOf n due fs)
+unfolding Long numbersOf whole-only
+long zero false [] = refl
+long zero false (f ∷ fs) = tt
+long zero true [] = tt
+long zero true (f ∷ []) = subst (Long 0) (numbers-one f) (go (wholeOf f))
+  where
+    go : (o : Option ℕ) → Long 0 (whole-only o)
+    go none = tt
+    go (some n) = refl
+long zero true (f ∷ g ∷ fs) = tt
+long (suc n) due [] = tt
+long (suc n) due (f ∷ fs) = go (numberOf f) refl (long n due fs)
+  where
+    go : (o : Option Float) → numberOf f ≡ o → Long n (numbersOf n due fs) → Long (suc n) (numbersOf (suc n) due (f ∷ fs))
+    go none e h = subst (Long (suc n)) (numbers-bad n due f fs e) tt
+    go (some x) e h = subst (Long (suc n)) (numbers-step n due f fs x e) (long-more n x (numbersOf n due fs) h)
+
+reads-value : (n : ℕ) (o : Option Numbers) (k : ℕ) (before after : List Float) → Long n o → n ≤ length before → Reads o (whole.Value k) before after → o ≡ some (record { floats = take n after; whole = k })
+unfolding Long Reads
+reads-value n none k before after l h g = absurd (let z : _≡_ {A = ℕ} 0 1 = cc in omega arith)
+reads-value n (some m) k before after l h g =
+    let p : k ≡ m .whole = (let q = g .0 in cc) in
+    let q : take n after ≡ m .floats = ap (take n) (g .1) ∙ ap (λ (j : ℕ). take j (sets before 0 (m .floats))) (sym l) ∙ kept-front before (m .floats) (omega arith) in
+    ap₂ (λ (f : List Float) (j : ℕ). some (record { floats = f; whole = j })) (sym q) (sym p)
+
+reads-not : (o : Option Numbers) (before after : List Float) → Reads o whole.Not before after → o ≡ none
+unfolding Reads
+reads-not none before after g = refl
+reads-not (some m) before after g = absurd (let q = g .0 in let z : _≡_ {A = ℕ} 0 1 = cc in omega arith)
+
+-- the numbers that the code has read, and that it has read none
+pub numbers-value : (n : ℕ) (due : Bool) (fs : List (List ℕ)) (k : ℕ) (before after : List Float) → n ≤ length before → Reads (numbersOf n due fs) (whole.Value k) before after
+    → numbersOf n due fs ≡ some (record { floats = take n after; whole = k })
+numbers-value n due fs k before after h g = reads-value n (numbersOf n due fs) k before after (long n due fs) h g
+
+pub numbers-not : (n : ℕ) (due : Bool) (fs : List (List ℕ)) (before after : List Float) → Reads (numbersOf n due fs) whole.Not before after → numbersOf n due fs ≡ none
+numbers-not n due fs before after g = reads-not (numbersOf n due fs) before after g
