@@ -6,3 +6,4 @@ pub mod Kept
 pub mod Words
 pub mod Reading
 pub mod Quotes
+pub mod Round
