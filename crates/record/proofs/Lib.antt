@@ -7,3 +7,4 @@ pub mod Words
 pub mod Reading
 pub mod Quotes
 pub mod Round
+pub mod Examples

@@ -136,6 +136,6 @@ understood-is made axes s m = go (has 34 s) refl
 -- the call of a record that is cut at its first comma
 pub understood-cut : (made : List ℕ) (axes : ℕ) (s : List ℕ) (e : ℕ) → has 34 made ≡ false → e ≤ length s → ((k : ℕ) → k < e → getD s k 0 ≡ 44 → ⊥) → (e < length s → getD s e 0 ≡ 44)
     → understood made axes s
-        ≡ elim (numbersOf (floatsAfter axes (wordOf made (take e s))) (wholeAfter (wordOf made (take e s))) (rest (drop e s))) [ none ↦ none | some m ↦ callOf axes (wordOf made (take e s)) m ]
+    ≡ elim (numbersOf (floatsAfter axes (wordOf made (take e s))) (wholeAfter (wordOf made (take e s))) (rest (drop e s))) [ none ↦ none | some m ↦ callOf axes (wordOf made (take e s)) m ]
 unfolding fieldsCall
 understood-cut made axes s e m h f g = understood-is made axes s m ∙ ap (fieldsCall made axes) (split-rest s e h f g)
