@@ -3,7 +3,7 @@ use borrow.Author.Needs.{needs}
 use Rattle.record.specs.Text.{same}
 use Rattle.record.specs.Commands.{wordOf}
 use Rattle.record.proofs.Parts.{same-no}
-use Rattle.record.proofs.Words.{Other, made-word, no-word}
+use Rattle.record.proofs.Words.{made-word, no-word}
 use Rattle.record.proofs.fields.word_of.Statement.{statement}
 use Rattle.record.proofs.fields.word_of.Tie as tie
 
