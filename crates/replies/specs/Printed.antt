@@ -1,0 +1,46 @@
+-- What is printed from the bytes that a search hands over, with no float in between; the proofs say that these are the lines of its points. Definitions only.
+use mathlib.Core.Path.{_≡_}
+use mathlib.Core.List.{List, [], _∷_, _++_}
+use Prim.Native.Nat.{ℕ, zero, suc, _+_, _*_, _/_, _%_, _<_}
+use lib.ListN.{length, getD, take, drop}
+use Rattle.model.specs.Calls.{Outcome}
+use Rattle.model.specs.Soundness.{All}
+use Rattle.model.specs.Trees.{Point}
+use Rattle.words.specs.Words.{words}
+use Rattle.record.specs.Numbers.{glyph, decimal}
+use Rattle.replies.specs.Lines.{field}
+
+-- the hex digits of a number from its bytes, of which the first is the low one
+unfoldable pub nibbles : List ℕ → List ℕ
+unfolding glyph
+nibbles [] = []
+nibbles (b ∷ s) = nibbles s ++ (glyph (b / 16) ∷ glyph (b % 16) ∷ [])
+
+-- the digits of float number i
+abbrev pub hexAt : List ℕ → ℕ → List ℕ
+hexAt cs i = nibbles (take 8 (drop (8 * i) cs))
+
+-- the fields of so many floats from number i on
+unfoldable pub hexes : ℕ → List ℕ → ℕ → List ℕ
+unfolding nibbles
+hexes zero cs i = []
+hexes (suc a) cs i = field (hexAt cs i) ++ hexes a cs (i + 1)
+
+-- the fields of point number j
+abbrev pub pointAt : (axes : ℕ) (cs ms : List ℕ) (j : ℕ) → List ℕ
+pointAt axes cs ms j = hexes axes cs (axes * j) ++ field (decimal (getD (words ms) j 0))
+
+-- the fields of so many points from number j on
+unfoldable pub pointsFrom : (axes n : ℕ) (cs ms : List ℕ) (j : ℕ) → List ℕ
+unfolding hexes decimal words
+pointsFrom axes zero cs ms j = []
+pointsFrom axes (suc n) cs ms j = pointAt axes cs ms j ++ pointsFrom axes n cs ms (j + 1)
+
+-- a point that can be handed over in bytes: a coordinate for each axis, and "Payload: unsigned 32 bits"
+abbrev pub ShapedPoint : (axes : ℕ) → Point → Type 0
+ShapedPoint axes p = (length (p .at) ≡ axes) × (p .payload < 4294967296)
+
+-- the answer of a search: its figure is the count of its points, and each can be handed over
+pub record Shaped (axes : ℕ) (o : Outcome) : Type 0 where
+  pub counted : o .figure ≡ length (o .points)
+  pub each : All (ShapedPoint axes) (o .points)
