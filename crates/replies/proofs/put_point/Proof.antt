@@ -1,0 +1,75 @@
+use Rattle.replies.proofs.put_point.Statement.{statement}
+use Rattle.replies.proofs.put_point.Tie as tie
+use Rattle.replies.proofs.put_point.Reads as reads
+use Rattle.replies.proofs.put_point.Lts as lts
+use Rattle.replies.proofs.put_hex.Reads as put-hex-reads
+use Rattle.replies.proofs.put_whole.Reads as put-whole-reads
+use Rattle.words.proofs.get.Reads as get-reads
+
+abbrev Inv-loop : tie.InvT-loop
+Inv-loop out₀ at axes coords payloads j many from m w₀ a₀ out w a = ?
+
+abbrev μ-loop : tie.MeasureT-loop
+μ-loop out₀ at axes coords payloads j many from m w₀ a₀ out w a = ?
+
+-- src/lib.rt:143:16
+mul-from : tie.Need-mul-from Inv-loop μ-loop
+mul-from c = ?
+
+-- src/lib.rt:144:9
+get-requires : tie.Need-get-requires Inv-loop μ-loop
+get-requires c κs = ?
+
+-- src/lib.rt:147:5
+loop-holds : tie.Need-loop-holds Inv-loop μ-loop
+loop-holds c = ?
+
+-- src/lib.rt:148:37
+add-put-hex : tie.Need-add-put-hex Inv-loop μ-loop
+add-put-hex c = ?
+
+-- src/lib.rt:148:9
+put-hex-requires : tie.Need-put-hex-requires Inv-loop μ-loop
+put-hex-requires c κs = ?
+
+-- src/lib.rt:149:9
+add-a : tie.Need-add-a Inv-loop μ-loop
+add-a c = ?
+
+-- src/lib.rt:147:5
+loop-less : tie.Need-loop-less Inv-loop μ-loop
+loop-less c = ?
+
+-- src/lib.rt:147:5
+loop-again : tie.Need-loop-again Inv-loop μ-loop
+loop-again c = ?
+
+-- src/lib.rt:151:5
+put-whole-requires : tie.Need-put-whole-requires Inv-loop μ-loop
+put-whole-requires c κs = ?
+
+-- src/lib.rt:136:1
+same-length : tie.Need-same-length Inv-loop μ-loop
+same-length c = ?
+
+-- src/lib.rt:136:1
+returns : tie.Need-returns Inv-loop μ-loop
+returns c = ?
+
+pub put-point-spec : {M : Type 1} → statement M
+put-point-spec =
+    tie.close
+    (tie.spec
+    Inv-loop
+    μ-loop
+    mul-from
+    get-requires
+    loop-holds
+    add-put-hex
+    put-hex-requires
+    add-a
+    loop-less
+    loop-again
+    put-whole-requires
+    same-length
+    returns)
