@@ -1,16 +1,13 @@
 // The lines of answers, for either program, written to a lent slice. Where there is no room nothing is written. An answer is printed from the bytes that a search hands over, so no float is made here.
 ghost use mathlib.Core.Path.{_≡_};
-ghost use mathlib.Core.Bool.{cond};
-ghost use mathlib.Core.List.{List, [], _∷_, _++_};
-ghost use Prim.Native.Nat.{ℕ, _+_, _*_, _<_, _≤_};
-ghost use lib.Dec.{eqb};
+ghost use mathlib.Core.List.{[], _∷_, _++_};
+ghost use Prim.Native.Nat.{_+_, _*_, _<_, _≤_};
 ghost use lib.ListN.{length};
-ghost use Rattle.model.specs.Calls.{Outcome, number};
-ghost use Rattle.trees.specs.Pieces.{roomFor, Hands};
+ghost use Rattle.trees.specs.Pieces.{roomFor};
 ghost use Rattle.record.specs.Numbers as Numbers;
 ghost use Rattle.record.specs.Numbers.{spelt, decimal};
-ghost use Rattle.replies.specs.Lines.{crlf, field, points};
-ghost use Rattle.replies.specs.Printed.{hexAt, pointAt, pointsFrom, Shaped};
+ghost use Rattle.replies.specs.Lines.{crlf, field};
+ghost use Rattle.replies.specs.Printed.{hexAt, pointAt, pointsFrom, Prints};
 ghost use Rattle.replies.specs.Programs.{Wrote};
 use answers::room;
 use words::get;
@@ -235,7 +232,7 @@ pub fn put_told(
     coords: &[u8],
     payloads: &[u8],
 ) -> usize
-    ensures { λ r. ⌜ ((o : Outcome) (cs ms : List ℕ) → Hands o cs ms (now (coords .entry)) (now (payloads .entry)) reply count → Shaped axes o → o .figure ≤ roomFor axes (now (coords .entry)) (now (payloads .entry)) → at + (14 + (17 * axes + 11) * o .figure) ≤ length (now (out .entry)) → Wrote (now (out .entry)) at (decimal (number (o .reply)) ++ cond (eqb (number (o .reply)) 0) (field (decimal (o .figure)) ++ points (o .points)) [] ++ crlf) (now (out .exit)) r) ⌝ }
+    ensures { λ r. ⌜ Prints axes (now (coords .entry)) (now (payloads .entry)) reply count (now (out .entry)) at (now (out .exit)) r ⌝ }
     ensures within { λ r. ⌜ (at ≤ length (now (out .entry)) → r ≤ length (now (out .entry))) ⌝ }
 {
     if reply != 0 {
