@@ -18,7 +18,7 @@ use Rattle.replies.proofs.Written.{then}
 pub nibbles-bytes : (n v : ℕ) → nibbles (bytes n v) ≡ spelt 16 (2 * n) v
 unfolding nibbles bytes spelt
 nibbles-bytes zero v = refl
-nibbles-bytes (suc n) v = 
+nibbles-bytes (suc n) v =
     ap₂ (λ (s t : List ℕ). s ++ t) (nibbles-bytes n (v / 256)) (ap₂ (λ (a b : ℕ). glyph a ∷ glyph b ∷ []) high low)
     ∙ ap (λ (u : ℕ). spelt 16 (2 * n) u ++ (glyph (v / 16 % 16) ∷ glyph (v % 16) ∷ [])) over
     ∙ sym (append-assoc (spelt 16 (2 * n) (v / 16 / 16)) (glyph (v / 16 % 16) ∷ []) (glyph (v % 16) ∷ []))

@@ -1,47 +1,36 @@
+-- `replies::places` meets its contract. Assumes nothing.
 use Rattle.replies.proofs.Written.{places-1, places-2, places-3, places-4, places-5, places-6, places-7, places-8, places-9, places-10}
 use borrow.Author.Needs.{needs}
 use Rattle.replies.proofs.places.Statement.{statement}
 use Rattle.replies.proofs.places.Tie as tie
-use Rattle.replies.proofs.places.Reads as reads
-use Rattle.replies.proofs.places.Lts as lts
 
--- src/lib.rt:52:9
 returns : tie.Need-returns
 returns c = (places-1 _ (search needs), search needs)
 
--- src/lib.rt:55:9
 returns-2 : tie.Need-returns-2
 returns-2 c = (places-2 _ (search needs) (search needs), search needs)
 
--- src/lib.rt:58:9
 returns-3 : tie.Need-returns-3
 returns-3 c = (places-3 _ (search needs) (search needs), search needs)
 
--- src/lib.rt:61:9
 returns-4 : tie.Need-returns-4
 returns-4 c = (places-4 _ (search needs) (search needs), search needs)
 
--- src/lib.rt:64:9
 returns-5 : tie.Need-returns-5
 returns-5 c = (places-5 _ (search needs) (search needs), search needs)
 
--- src/lib.rt:67:9
 returns-6 : tie.Need-returns-6
 returns-6 c = (places-6 _ (search needs) (search needs), search needs)
 
--- src/lib.rt:70:9
 returns-7 : tie.Need-returns-7
 returns-7 c = (places-7 _ (search needs) (search needs), search needs)
 
--- src/lib.rt:73:9
 returns-8 : tie.Need-returns-8
 returns-8 c = (places-8 _ (search needs) (search needs), search needs)
 
--- src/lib.rt:76:9
 returns-9 : tie.Need-returns-9
 returns-9 c = (places-9 _ (search needs) (search needs), search needs)
 
--- src/lib.rt:47:1
 returns-10 : tie.Need-returns-10
 returns-10 c = (places-10 _ (search needs), search needs)
 

@@ -1,3 +1,4 @@
+-- `replies::put_figure` meets its contract. Assumes nothing.
 use native.Mathlib.Omega.{arith}
 use Rattle.record.specs.Numbers.{decimal}
 use Rattle.replies.specs.Lines.{field}
@@ -5,41 +6,28 @@ use Rattle.replies.proofs.Written.{done-written}
 use borrow.Author.Needs.{needs}
 use Rattle.replies.proofs.put_figure.Statement.{statement}
 use Rattle.replies.proofs.put_figure.Tie as tie
-use Rattle.replies.proofs.put_figure.Reads as reads
-use Rattle.replies.proofs.put_figure.Lts as lts
-use Rattle.replies.proofs.put_byte.Reads as put-byte-reads
-use Rattle.replies.proofs.put_end.Reads as put-end-reads
-use Rattle.replies.proofs.put_whole.Reads as put-whole-reads
 
--- src/lib.rt:218:9
 returns : tie.Need-returns
 returns c = (λ h. absurd (omega arith), λ h. h)
 
--- src/lib.rt:220:13
 sub-if2 : tie.Need-sub-if2
 sub-if2 c = search needs
 
--- src/lib.rt:221:9
 returns-2 : tie.Need-returns-2
 returns-2 c = (λ h. absurd (omega arith), λ h. h)
 
--- src/lib.rt:223:9
 put-byte-requires : tie.Need-put-byte-requires
 put-byte-requires c κs = search needs
 
--- src/lib.rt:224:9
 put-whole-requires : tie.Need-put-whole-requires
 put-whole-requires c κs = search needs
 
--- src/lib.rt:225:5
 put-end-requires : tie.Need-put-end-requires
 put-end-requires c κs = search needs
 
--- src/lib.rt:213:1
 same-length : tie.Need-same-length
 same-length c = search needs
 
--- src/lib.rt:213:1
 returns-3 : tie.Need-returns-3
 returns-3 c = (λ h. done-written (c .before .before .before .before .before .before .before .before .before .before .before .before .before .before .before .args .out .now) _ _ _ (field (decimal (c .before .before .before .before .before .before .before .before .before .before .before .before .before .before .before .args .figure))) _ _ _ _ (c .before .before .before .before .before .before .before .before .before .before .put-byte .ensures .0) (c .before .before .before .before .before .before .put-whole .ensures .0) (c .before .before .put-end .ensures .0), λ h. omega arith)
 

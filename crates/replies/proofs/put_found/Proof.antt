@@ -1,3 +1,4 @@
+-- `replies::put_found` meets its contract. Assumes nothing.
 use mathlib.Core.List.{_++_}
 use Rattle.record.specs.Numbers.{decimal}
 use Rattle.replies.specs.Lines.{field}
@@ -6,36 +7,24 @@ use Rattle.replies.proofs.Written.{then, done-written}
 use borrow.Author.Needs.{needs}
 use Rattle.replies.proofs.put_found.Statement.{statement}
 use Rattle.replies.proofs.put_found.Tie as tie
-use Rattle.replies.proofs.put_found.Reads as reads
-use Rattle.replies.proofs.put_found.Lts as lts
-use Rattle.replies.proofs.put_byte.Reads as put-byte-reads
-use Rattle.replies.proofs.put_end.Reads as put-end-reads
-use Rattle.replies.proofs.put_points.Reads as put-points-reads
-use Rattle.replies.proofs.put_whole.Reads as put-whole-reads
 
--- src/lib.rt:191:9
 put-byte-requires : tie.Need-put-byte-requires
 put-byte-requires c κs = search needs
 
--- src/lib.rt:192:9
 put-whole-requires : tie.Need-put-whole-requires
 put-whole-requires c κs = search needs
 
--- src/lib.rt:193:9
 put-points-requires : tie.Need-put-points-requires
 put-points-requires c κs = search needs
 
--- src/lib.rt:194:5
 put-end-requires : tie.Need-put-end-requires
 put-end-requires c κs = search needs
 
--- src/lib.rt:178:1
 same-length : tie.Need-same-length
 same-length c = search needs
 
--- src/lib.rt:178:1
 returns : tie.Need-returns
-returns c = 
+returns c =
     let a = c .before .before .before .before .before .before .before .before .before .before .before .before .before .before .before .before .before .before .before .args in
     let ps = pointsFrom (a .axes) (a .count) (a .coords .now) (a .payloads .now) 0 in
     (done-written (a .out .now) _ _ _ (field (decimal (a .count)) ++ ps) _ _ _ _ (c .before .before .before .before .before .before .before .before .before .before .before .before .before .before .put-byte .ensures .0) (then (c .before .before .before .before .before .before .before .before .before .before .before .before .before .before .put-byte .last .0) (c .before .before .before .before .before .before .before .before .before .before .put-whole .last .0) _ (field (decimal (a .count))) ps _ _ _ (c .before .before .before .before .before .before .before .before .before .before .put-whole .ensures .0) (c .before .before .before .before .before .before .put-points .ensures .0)) (c .before .before .put-end .ensures .0), search needs)

@@ -1,3 +1,4 @@
+-- `replies::put_hex` meets its contract. Assumes nothing.
 use Prim.Native.Nat.{_+_, _-_, _*_}
 use mathlib.Core.Path.{refl}
 use native.Mathlib.Omega.{arith}
@@ -6,10 +7,6 @@ use Rattle.replies.proofs.Hexes.{Hexing, hexing-start, hexing-step, hex
 use borrow.Author.Needs.{needs}
 use Rattle.replies.proofs.put_hex.Statement.{statement}
 use Rattle.replies.proofs.put_hex.Tie as tie
-use Rattle.replies.proofs.put_hex.Reads as reads
-use Rattle.replies.proofs.put_hex.Lts as lts
-use Rattle.replies.proofs.glyph.Reads as glyph-reads
-use Rattle.replies.proofs.put_byte.Reads as put-byte-reads
 
 abbrev Inv-loop : tie.InvT-loop
 Inv-loop out₀ at coords i from w₀ k₀ out w k = Hexing coords i out₀ w₀ out w k
@@ -17,67 +14,51 @@ Inv-loop out₀ at coords i from w₀ k₀ out w k = Hexing coords i out₀ w₀
 abbrev μ-loop : tie.MeasureT-loop
 μ-loop out₀ at coords i from w₀ k₀ out w k = k
 
--- src/lib.rt:122:16
 mul-from : tie.Need-mul-from Inv-loop μ-loop
 mul-from c = search needs
 
--- src/lib.rt:123:9
 put-byte-requires : tie.Need-put-byte-requires Inv-loop μ-loop
 put-byte-requires c κs = search needs
 
--- src/lib.rt:125:5
 loop-holds : tie.Need-loop-holds Inv-loop μ-loop
 loop-holds c = hexing-start _ _ _ _
 
--- src/lib.rt:126:9
 sub-k : tie.Need-sub-k Inv-loop μ-loop
 sub-k c = search needs
 
--- src/lib.rt:127:24
 add-b : tie.Need-add-b Inv-loop μ-loop
 add-b c = search needs
 
--- src/lib.rt:127:17
 shared-slice-read-b : tie.Need-shared-slice-read-b Inv-loop μ-loop
 shared-slice-read-b c = search needs
 
--- src/lib.rt:128:18
 glyph-requires : tie.Need-glyph-requires Inv-loop μ-loop
 glyph-requires c κs = omega (arith, c .shared-slice-known2 .given (8 * c .before .before .before .before .before .before .before .before .before .args .i + (c .before .before .loop .k - 1)))
 
--- src/lib.rt:128:9
 slice-write-out : tie.Need-slice-write-out Inv-loop μ-loop
 slice-write-out c = search needs
 
--- src/lib.rt:129:22
 glyph-requires-2 : tie.Need-glyph-requires-2 Inv-loop μ-loop
 glyph-requires-2 c κs = search needs
 
--- src/lib.rt:129:13
 add-out : tie.Need-add-out Inv-loop μ-loop
 add-out c = search needs
 
--- src/lib.rt:129:9
 slice-write-out-2 : tie.Need-slice-write-out-2 Inv-loop μ-loop
 slice-write-out-2 c = simp length-set (omega (arith, c .before .before .before .before .loop .inv .few, c .before .before .before .before .loop .inv .same, c .before .before .before .before .loop .inv .so-far))
 
--- src/lib.rt:130:9
 add-w : tie.Need-add-w Inv-loop μ-loop
 add-w c = search needs
 
--- src/lib.rt:125:5
 loop-less : tie.Need-loop-less Inv-loop μ-loop
 loop-less c = search needs
 
--- src/lib.rt:125:5
 loop-again : tie.Need-loop-again Inv-loop μ-loop
 loop-again c = hexing-step _ _ _ _ _ _ _ _ _ _ (c .before .before .before .before .before .before .before .before .before .before .before .pre .1) (c .before .before .before .before .loop .inv) (c .before .before .before .loop-test .taken) refl (c .before .glyph .ensures) (c .glyph2 .ensures)
 
--- src/lib.rt:116:1
 same-length : tie.Need-same-length Inv-loop μ-loop
 same-length c = search needs
 
--- src/lib.rt:116:1
 returns : tie.Need-returns Inv-loop μ-loop
 returns c = (hexing-end _ _ _ _ (c .before .before .before .before .before .before .before .before .args .out .now) _ _ _ _ (c .before .before .before .before .put-byte .ensures .0) (c .before .loop .inv) (c .loop-test .left), omega (arith, c .before .loop .inv .so-far))
 

@@ -1,3 +1,4 @@
+-- `replies::put_point` meets its contract. Assumes nothing.
 use mathlib.Core.Path.{refl}
 use Prim.Native.Nat.{_-_}
 use native.Mathlib.Omega.{arith}
@@ -5,11 +6,6 @@ use Rattle.replies.proofs.Points.{Placing, placing-start, placing-step,
 use borrow.Author.Needs.{needs}
 use Rattle.replies.proofs.put_point.Statement.{statement}
 use Rattle.replies.proofs.put_point.Tie as tie
-use Rattle.replies.proofs.put_point.Reads as reads
-use Rattle.replies.proofs.put_point.Lts as lts
-use Rattle.replies.proofs.put_hex.Reads as put-hex-reads
-use Rattle.replies.proofs.put_whole.Reads as put-whole-reads
-use Rattle.words.proofs.get.Reads as get-reads
 
 abbrev Inv-loop : tie.InvT-loop
 Inv-loop out₀ at axes coords payloads j many from m w₀ a₀ out w a = Placing axes coords from out₀ w₀ out w a
@@ -17,47 +13,36 @@ Inv-loop out₀ at axes coords payloads j many from m w₀ a₀ out w a = Placin
 abbrev μ-loop : tie.MeasureT-loop
 μ-loop out₀ at axes coords payloads j many from m w₀ a₀ out w a = axes - a
 
--- src/lib.rt:143:16
 mul-from : tie.Need-mul-from Inv-loop μ-loop
 mul-from c = search needs
 
--- src/lib.rt:144:9
 get-requires : tie.Need-get-requires Inv-loop μ-loop
 get-requires c κs = search needs
 
--- src/lib.rt:147:5
 loop-holds : tie.Need-loop-holds Inv-loop μ-loop
 loop-holds c = placing-start _ _ _ _ _
 
--- src/lib.rt:148:37
 add-put-hex : tie.Need-add-put-hex Inv-loop μ-loop
 add-put-hex c = search needs
 
--- src/lib.rt:148:9
 put-hex-requires : tie.Need-put-hex-requires Inv-loop μ-loop
 put-hex-requires c κs = omega (arith, c .before .before .loop .inv .few, c .before .before .loop .inv .so-far, c .before .before .loop .inv .printing .same)
 
--- src/lib.rt:149:9
 add-a : tie.Need-add-a Inv-loop μ-loop
 add-a c = search needs
 
--- src/lib.rt:147:5
 loop-less : tie.Need-loop-less Inv-loop μ-loop
 loop-less c = search needs
 
--- src/lib.rt:147:5
 loop-again : tie.Need-loop-again Inv-loop μ-loop
 loop-again c = placing-step _ _ _ _ _ _ _ _ _ _ (c .before .before .before .before .before .loop .inv) (c .before .before .before .before .loop-test .taken) (c .before .before .put-hex .kept .0) (c .before .before .put-hex .ensures .0) (c .before .before .put-hex .ensures .1)
 
--- src/lib.rt:151:5
 put-whole-requires : tie.Need-put-whole-requires Inv-loop μ-loop
 put-whole-requires c κs = omega (arith, c .before .before .loop .inv .few, c .before .before .loop .inv .so-far, c .before .before .loop .inv .printing .same)
 
--- src/lib.rt:136:1
 same-length : tie.Need-same-length Inv-loop μ-loop
 same-length c = search needs
 
--- src/lib.rt:136:1
 returns : tie.Need-returns Inv-loop μ-loop
 returns c = (placing-end (c .before .before .before .before .before .before .before .before .before .before .args .axes) (c .before .before .before .before .before .before .before .before .before .before .args .coords .now) _ (c .before .before .before .before .before .before .before .before .before .before .args .out .now) _ _ _ (c .before .before .before .before .before .before .before .before .before .before .args .payloads .now) _ _ _ _ _ (c .before .before .before .before .before .loop .inv) (c .before .before .before .before .loop-test .left) refl (c .before .before .before .before .before .before .get .ensures) (c .before .before .put-whole .ensures .0), omega (arith, c .before .before .before .before .before .loop .inv .few, c .before .before .before .before .before .loop .inv .so-far, c .before .before .put-whole .ensures .1))
 

@@ -1,3 +1,4 @@
+-- `replies::put_points` meets its contract. Assumes nothing.
 use Prim.Native.Nat.{_-_, _+_, _*_}
 use native.Mathlib.Omega.{arith}
 use Rattle.answers.proofs.Writes.{fits-place}
@@ -5,9 +6,6 @@ use Rattle.replies.proofs.Points.{Pointing, pointing-start, pointing-st
 use borrow.Author.Needs.{needs}
 use Rattle.replies.proofs.put_points.Statement.{statement}
 use Rattle.replies.proofs.put_points.Tie as tie
-use Rattle.replies.proofs.put_points.Reads as reads
-use Rattle.replies.proofs.put_points.Lts as lts
-use Rattle.replies.proofs.put_point.Reads as put-point-reads
 
 abbrev Inv-loop : tie.InvT-loop
 Inv-loop out₀ at axes n coords payloads w₀ j₀ out w j = Pointing axes n coords payloads out₀ at out w j
@@ -15,31 +13,24 @@ Inv-loop out₀ at axes n coords payloads w₀ j₀ out w j = Pointing axes n co
 abbrev μ-loop : tie.MeasureT-loop
 μ-loop out₀ at axes n coords payloads w₀ j₀ out w j = n - j
 
--- src/lib.rt:170:5
 loop-holds : tie.Need-loop-holds Inv-loop μ-loop
 loop-holds c = pointing-start _ _ _ _ _ _
 
--- src/lib.rt:171:9
 put-point-requires : tie.Need-put-point-requires Inv-loop μ-loop
 put-point-requires c κs = (omega (arith, c .before .before .loop .inv .printing .same, room-for (17 * c .before .before .before .before .before .before .args .axes + 11) _ _ _ _ _ (c .before .before .before .before .before .before .pre .0) (c .before .loop-test .taken) (c .before .before .loop .inv .so-far)), omega (arith, fits-place _ _ _ _ _ (c .before .before .before .before .before .before .pre .1) (c .before .loop-test .taken)))
 
--- src/lib.rt:172:9
 add-j : tie.Need-add-j Inv-loop μ-loop
 add-j c = search needs
 
--- src/lib.rt:170:5
 loop-less : tie.Need-loop-less Inv-loop μ-loop
 loop-less c = search needs
 
--- src/lib.rt:170:5
 loop-again : tie.Need-loop-again Inv-loop μ-loop
 loop-again c = pointing-step _ _ _ _ _ _ _ _ _ _ _ (c .before .before .before .before .before .loop .inv) (c .before .before .before .before .loop-test .taken) (c .before .before .put-point .kept .0) (c .before .before .put-point .ensures .0) (c .before .before .put-point .ensures .1)
 
--- src/lib.rt:155:1
 same-length : tie.Need-same-length Inv-loop μ-loop
 same-length c = search needs
 
--- src/lib.rt:155:1
 returns : tie.Need-returns Inv-loop μ-loop
 returns c = (pointing-end _ _ _ _ _ _ _ _ _ (c .before .loop .inv) (c .loop-test .left), pointing-within _ _ _ _ _ _ _ _ _ (c .before .loop .inv))
 

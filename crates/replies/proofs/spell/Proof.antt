@@ -1,3 +1,4 @@
+-- `replies::spell` meets its contract. Assumes nothing.
 use Prim.Native.Nat.{ℕ, _≤_, _+_}
 use mathlib.Core.Path.{_≡_, refl, sym, ap, _∙_}
 use lib.ListN.{length}
@@ -7,9 +8,6 @@ use Rattle.replies.proofs.Written.{spelt-turn, spelt-done, spelt-length
 use borrow.Author.Needs.{needs}
 use Rattle.replies.proofs.spell.Statement.{statement}
 use Rattle.replies.proofs.spell.Tie as tie
-use Rattle.replies.proofs.spell.Reads as reads
-use Rattle.replies.proofs.spell.Lts as lts
-use Rattle.replies.proofs.glyph.Reads as glyph-reads
 
 abbrev Inv-loop : tie.InvT-loop
 Inv-loop out₀ at k n i₀ rest₀ out i rest = (i ≤ k) × (length out ≡ length out₀) × (sets out at (spelt 10 i rest) ≡ sets out₀ at (spelt 10 k n))
@@ -17,52 +15,41 @@ Inv-loop out₀ at k n i₀ rest₀ out i rest = (i ≤ k) × (length out ≡ le
 abbrev μ-loop : tie.MeasureT-loop
 μ-loop out₀ at k n i₀ rest₀ out i rest = i
 
--- src/lib.rt:89:5
 loop-holds : tie.Need-loop-holds Inv-loop μ-loop
 loop-holds c = (search needs, refl, refl)
 
--- src/lib.rt:90:9
 sub-i : tie.Need-sub-i Inv-loop μ-loop
 sub-i c = search needs
 
--- src/lib.rt:91:29
 cast-glyph : tie.Need-cast-glyph Inv-loop μ-loop
 cast-glyph c = search needs
 
--- src/lib.rt:91:23
 glyph-requires : tie.Need-glyph-requires Inv-loop μ-loop
 glyph-requires c κs = search needs
 
--- src/lib.rt:91:13
 add-out : tie.Need-add-out Inv-loop μ-loop
 add-out c = search needs
 
--- src/lib.rt:91:9
 slice-write-out : tie.Need-slice-write-out Inv-loop μ-loop
 slice-write-out c = search needs
 
--- src/lib.rt:89:5
 loop-less : tie.Need-loop-less Inv-loop μ-loop
 loop-less c = search needs
 
--- src/lib.rt:89:5
 loop-again : tie.Need-loop-again Inv-loop μ-loop
-loop-again c = 
+loop-again c =
     let l = c .before .before .loop in
     let a = c .before .before .before .before .args in
     (search needs, search needs, (rw (c .glyph .ensures) (spelt-turn (l .i) (l .rest) (l .out) (a .at) (c .before .loop-test .taken)) ∙ l .inv .2))
 
--- src/lib.rt:94:5
 add-result : tie.Need-add-result Inv-loop μ-loop
 add-result c = search needs
 
--- src/lib.rt:82:1
 same-length : tie.Need-same-length Inv-loop μ-loop
 same-length c = search needs
 
--- src/lib.rt:82:1
 returns : tie.Need-returns Inv-loop μ-loop
-returns c = 
+returns c =
     let l = c .before .loop in
     let a = c .before .before .before .args in
     ((ap (λ (j : ℕ). a .at + j) (sym (spelt-length 10 (a .k) (a .n))), (sym (spelt-done (l .rest) (l .out) (a .at) (l .i) (c .loop-test .left)) ∙ l .inv .2)), refl)
