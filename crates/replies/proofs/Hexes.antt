@@ -6,7 +6,7 @@ use native.Mathlib.Nat.{add-zero}
 use native.Mathlib.Numerals.{add-one}
 use native.Mathlib.Omega.{arith}
 use lib.ListN.{length, getD, set, take, drop, length-take, length-drop, length-set, drop-of-length-le}
-use lib.Seq.{sets, drop-cons, getD-take, getD-drop}
+use lib.Seq.{drop-cons, getD-take, getD-drop}
 use Rattle.record.specs.Numbers.{glyph, spelt}
 use Rattle.trees.specs.Pieces.{bytes}
 use Rattle.replies.specs.Lines.{field}

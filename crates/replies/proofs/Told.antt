@@ -3,16 +3,16 @@ use mathlib.Core.Path.{_≡_, refl, sym, ap, ap₂, _∙_, subst}
 use mathlib.Core.Logic.{_≢_}
 use mathlib.Core.Bool.{Bool, cond}
 use mathlib.Core.List.{List, [], _∷_, _++_, append-assoc, append-nil, map, flatten}
-use Prim.Native.Nat.{ℕ, zero, suc, _+_, _-_, _*_, _/_, _%_, _≤_, _<_, min}
+use Prim.Native.Nat.{ℕ, zero, suc, _+_, _*_, _/_, _%_, _≤_, _<_, min}
 use native.Mathlib.Nat.{mul-suc}
 use native.Mathlib.Numerals.{add-one}
 use native.Mathlib.Omega.{arith}
 use lib.Dec.{eqb}
 use lib.Ieee.{Float, binary64, toBits}
-use lib.ListN.{length, getD, take, drop, length-append, length-drop, List·getD-append}
-use lib.Seq.{sets, sets-eq, take-at, drop-at, drop-drop, getD-drop, length-sets}
-use borrow.Author.Tests.{eq-eqb, ne-eqb}
-use Rattle.model.specs.Calls.{Outcome, number}
+use lib.ListN.{length, getD, take, drop, length-append, length-drop}
+use lib.Seq.{sets-eq, take-at, drop-at, drop-drop, getD-drop, length-sets}
+use borrow.Author.Tests.{ne-eqb}
+use Rattle.model.specs.Calls.{Outcome}
 use Rattle.model.specs.Soundness.{All}
 use Rattle.model.specs.Trees.{Point}
 use Rattle.record.specs.Numbers.{decimal, hex}
@@ -21,7 +21,7 @@ use Rattle.words.proofs.Words.{words-at}
 use Rattle.answers.proofs.Writes.{fits-place}
 use Rattle.trees.specs.Pieces.{Hands, bytes, coordinates, payloads, roomFor}
 use Rattle.replies.specs.Lines.{crlf, field, point, points}
-use Rattle.replies.specs.Printed.{hexAt, hexes, nibbles, pointAt, pointsFrom, ShapedPoint, Shaped, found, Prints}
+use Rattle.replies.specs.Printed.{hexAt, hexes, nibbles, pointsFrom, ShapedPoint, Shaped, found, Prints}
 use Rattle.replies.specs.Programs.{Wrote}
 use Rattle.replies.proofs.Hexes.{nibbles-bytes}
 
