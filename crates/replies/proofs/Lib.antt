@@ -3,3 +3,4 @@ pub mod Hexes
 pub mod Points
 pub mod Told
 pub mod Shapes
+pub mod Runs
