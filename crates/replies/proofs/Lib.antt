@@ -1,4 +1,5 @@
 pub mod Written
+pub mod Lines
 pub mod Hexes
 pub mod Points
 pub mod Told

@@ -99,7 +99,7 @@ module _ (axes : ℕ) where
 module _ (k : Kind) (a : Plan) (h : All (ShapedPoint (k .axes)) (held 32 (a .root))) where
   pub radius-asked : (c : List Float) (r : Float) (n : ℕ) → Asked (k .axes) n (step k (tree a) (Ask (Radius c r n)))
   unfolding step call ask radius
-  radius-asked c r n = search-asked (k .axes) a n (radius c r 32 (a .root)) 
+  radius-asked c r n = search-asked (k .axes) a n (radius c r 32 (a .root))
       (cond-same (All (ShapedPoint (k .axes))) (lt r plusZero) [] (keep (near c (mul binary64 r r)) (held 32 (a .root))) (λ t. tt) (λ t. keep-all (ShapedPoint (k .axes)) (near c (mul binary64 r r)) (held 32 (a .root)) h))
 
   pub box-asked : (q : List Side) (n : ℕ) → Asked (k .axes) n (step k (tree a) (Ask (Box q n)))
