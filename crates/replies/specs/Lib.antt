@@ -1,3 +1,5 @@
 -- What the command programs print. Definitions only.
 pub mod Lines
 pub mod Programs
+pub mod Printed
+pub mod Runs
