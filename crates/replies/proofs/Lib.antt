@@ -1,0 +1,4 @@
+pub mod Written
+pub mod Hexes
+pub mod Points
+pub mod Told

@@ -1,0 +1,62 @@
+-- What is printed from the bytes that a search hands over, with no float in between; the proofs say that these are the lines of its points. Definitions only.
+use mathlib.Core.Path.{_≡_}
+use mathlib.Core.Bool.{cond}
+use mathlib.Core.List.{List, [], _∷_, _++_}
+use Prim.Native.Nat.{ℕ, zero, suc, _+_, _*_, _/_, _%_, _<_, _≤_}
+use lib.Dec.{eqb}
+use lib.ListN.{length, getD, take, drop}
+use Rattle.model.specs.Calls.{Outcome, number}
+use Rattle.model.specs.Soundness.{All}
+use Rattle.model.specs.Trees.{Point}
+use Rattle.words.specs.Words.{words}
+use Rattle.trees.specs.Pieces.{Hands, roomFor}
+use Rattle.record.specs.Numbers.{glyph, decimal}
+use Rattle.replies.specs.Lines.{crlf, field, points}
+use Rattle.replies.specs.Programs.{Wrote}
+
+-- the hex digits of a number from its bytes, of which the first is the low one
+unfoldable pub nibbles : List ℕ → List ℕ
+unfolding glyph
+nibbles [] = []
+nibbles (b ∷ s) = nibbles s ++ (glyph (b / 16) ∷ glyph (b % 16) ∷ [])
+
+-- the digits of float number i
+abbrev pub hexAt : List ℕ → ℕ → List ℕ
+hexAt cs i = nibbles (take 8 (drop (8 * i) cs))
+
+-- the fields of so many floats from number i on
+unfoldable pub hexes : ℕ → List ℕ → ℕ → List ℕ
+unfolding nibbles
+hexes zero cs i = []
+hexes (suc a) cs i = field (hexAt cs i) ++ hexes a cs (i + 1)
+
+-- the fields of point number j
+abbrev pub pointAt : (axes : ℕ) (cs ms : List ℕ) (j : ℕ) → List ℕ
+pointAt axes cs ms j = hexes axes cs (axes * j) ++ field (decimal (getD (words ms) j 0))
+
+-- the fields of so many points from number j on
+unfoldable pub pointsFrom : (axes n : ℕ) (cs ms : List ℕ) (j : ℕ) → List ℕ
+unfolding hexes decimal words
+pointsFrom axes zero cs ms j = []
+pointsFrom axes (suc n) cs ms j = pointAt axes cs ms j ++ pointsFrom axes n cs ms (j + 1)
+
+-- a point that can be handed over in bytes: a coordinate for each axis, and "Payload: unsigned 32 bits"
+abbrev pub ShapedPoint : (axes : ℕ) → Point → Type 0
+ShapedPoint axes p = (length (p .at) ≡ axes) × (p .payload < 4294967296)
+
+-- the answer of a search: its figure is the count of its points, and each can be handed over
+pub record Shaped (axes : ℕ) (o : Outcome) : Type 0 where
+  pub counted : o .figure ≡ length (o .points)
+  pub each : All (ShapedPoint axes) (o .points)
+
+-- the line of a search, whatever became of it
+unfoldable pub found : Outcome → List ℕ
+unfolding decimal number points
+found o = decimal (number (o .reply)) ++ cond (eqb (number (o .reply)) 0) (field (decimal (o .figure)) ++ points (o .points)) [] ++ crlf
+
+-- the line of a search is printed from what it handed over, where there is room: the reply, the count and the line end have 14 bytes at most, each float 17 with its comma and
+-- each payload 11
+unfoldable pub Prints : (axes : ℕ) (coords payloads : List ℕ) (reply count : ℕ) (before : List ℕ) (at : ℕ) (after : List ℕ) (r : ℕ) → Type 0
+unfolding found
+Prints axes coords payloads reply count before at after r =
+    (o : Outcome) (cs ms : List ℕ) → Hands o cs ms coords payloads reply count → Shaped axes o → o .figure ≤ roomFor axes coords payloads → at + (14 + (17 * axes + 11) * o .figure) ≤ length before → Wrote before at (found o) after r
