@@ -1,0 +1,5 @@
+// The quadtree's command program: reads records from standard input and prints their answers.
+mod answer;
+
+fn main() {
+}
