@@ -1,5 +1,5 @@
 // The quadtree's command program: reads records from standard input and prints their answers.
 mod answer;
+mod command;
 
-fn main() {
-}
+fn main() {}

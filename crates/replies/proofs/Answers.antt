@@ -163,18 +163,18 @@ module _ (k : Kind) (held : Bool) (s : Pieces) (out : List ℕ) (at : ℕ) (out'
       → Answers k (some c) held s held s' out at out' r
   unfolding DoesHeld
   answers-change c s' q n f st e d w = only-tree c held s' e (λ a y.
-    let g = d a y in
-    let l : decimal q ++ crlf ≡ line c (step k (tree a) c) = ap (λ (j : ℕ). decimal j ++ crlf) (g .reply) ∙ sym (line-bare c f (step k (tree a) c)) in
-    (subst (λ (t : List ℕ). Wrote out at t out' r) l w, (e ∙ sym (st a), g .after)))
+      let g = d a y in
+      let l : decimal q ++ crlf ≡ line c (step k (tree a) c) = ap (λ (j : ℕ). decimal j ++ crlf) (g .reply) ∙ sym (line-bare c f (step k (tree a) c)) in
+      (subst (λ (t : List ℕ). Wrote out at t out' r) l w, (e ∙ sym (st a), g .after)))
 
   -- a yes or no, or a count
   pub answers-figure : (q : Query) (n : ℕ) → Figured q → held ≡ true → AsksHeld k q s 0 n
       → Wrote out at (decimal 0 ++ field (decimal n) ++ crlf) out' r → Answers k (some (Ask q)) held s held s out at out' r
   unfolding AsksHeld
   answers-figure q n f e d w = only-tree (Ask q) held s e (λ a y.
-    let g = d a y in
-    let st = ask-state k a q in
-    (subst (λ (t : List ℕ). Wrote out at t out' r) (line-figured q f (step k (tree a) (Ask q)) n (g .reply) (g .figure)) w, subst (λ (b : State). (held ≡ held? b) × Says k s b) (sym st) (e ∙ sym (tree-held a), y)))
+      let g = d a y in
+      let st = ask-state k a q in
+      (subst (λ (t : List ℕ). Wrote out at t out' r) (line-figured q f (step k (tree a) (Ask q)) n (g .reply) (g .figure)) w, subst (λ (b : State). (held ≡ held? b) × Says k s b) (sym st) (e ∙ sym (tree-held a), y)))
 
   -- a creation: its reply alone
   pub answers-create : (b : List Side) (cap : ℕ) (s' : Pieces) (q : ℕ) (held' : Bool) → Does k (Create b cap) s s' q 0 → held' ≡ held || eqb q 0 → Wrote out at (decimal q ++ crlf) out' r
