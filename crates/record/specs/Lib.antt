@@ -3,3 +3,4 @@ pub mod Text
 pub mod Numbers
 pub mod Commands
 pub mod Input
+pub mod Read
