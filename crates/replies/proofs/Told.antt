@@ -1,8 +1,8 @@
 -- What is printed from the bytes of an answer is the line of its points, over any number of axes. Assumes nothing.
 use mathlib.Core.Path.{_≡_, refl, sym, ap, ap₂, _∙_, subst}
 use mathlib.Core.Logic.{_≢_}
-use mathlib.Core.Bool.{Bool, cond}
-use mathlib.Core.List.{List, [], _∷_, _++_, append-assoc, append-nil, map, flatten}
+use mathlib.Core.Bool.{cond}
+use mathlib.Core.List.{List, [], _∷_, _++_, append-assoc, map, flatten}
 use Prim.Native.Nat.{ℕ, zero, suc, _+_, _*_, _/_, _%_, _≤_, _<_, min}
 use native.Mathlib.Nat.{mul-suc}
 use native.Mathlib.Numerals.{add-one}
@@ -11,7 +11,6 @@ use lib.Dec.{eqb}
 use lib.Ieee.{Float, binary64, toBits}
 use lib.ListN.{length, getD, take, drop, length-append, length-drop}
 use lib.Seq.{sets-eq, take-at, drop-at, drop-drop, getD-drop, length-sets}
-use borrow.Author.Tests.{ne-eqb}
 use Rattle.model.specs.Calls.{Outcome}
 use Rattle.model.specs.Soundness.{All}
 use Rattle.model.specs.Trees.{Point}
@@ -24,6 +23,7 @@ use Rattle.replies.specs.Lines.{crlf, field, point, points}
 use Rattle.replies.specs.Printed.{hexAt, hexes, nibbles, pointsFrom, ShapedPoint, Shaped, found, Prints}
 use Rattle.replies.specs.Programs.{Wrote}
 use Rattle.replies.proofs.Hexes.{nibbles-bytes}
+use Rattle.replies.proofs.Lines.{refused-is}
 
 -- ---- coordinates
 floatBytes : List Float → List ℕ
@@ -121,7 +121,7 @@ module _ (axes reply count : ℕ) (coords payloads' : List ℕ) (o : Outcome) (c
   unfolding found
   found-refused e =
       ap (λ (n : ℕ). decimal n ++ cond (eqb n 0) (field (decimal (o .figure)) ++ points (o .points)) [] ++ crlf) (sym (h .reply))
-      ∙ ap (λ (t : Bool). decimal reply ++ cond t (field (decimal (o .figure)) ++ points (o .points)) [] ++ crlf) (ne-eqb reply 0 e) ∙ ap (λ (l : List ℕ). l ++ crlf) (append-nil (decimal reply))
+      ∙ refused-is reply (field (decimal (o .figure)) ++ points (o .points)) e
 
   found-done : reply ≡ 0 → o .figure ≤ roomFor axes coords payloads' → found o ≡ decimal 0 ++ (field (decimal count) ++ pointsFrom axes count coords payloads' 0) ++ crlf
   unfolding found

@@ -2,3 +2,4 @@
 pub mod Lines
 pub mod Programs
 pub mod Printed
+pub mod Runs

@@ -67,7 +67,7 @@ module _ (P : Point → Type 0) (pt : ℕ → Point) (h : (p : ℕ) → P (pt p)
   list-all [] = tt
   list-all (p ∷ l) = (h p, list-all l)
 
-  held-all : (d : ℕ) (t : PTree d) → All P (held d (erase pt d t))
+  pub held-all : (d : ℕ) (t : PTree d) → All P (held d (erase pt d t))
   unfolding held erase
   held-all zero l = list-all l
   held-all (suc d) (leaf l) = list-all l
