@@ -1,21 +1,29 @@
 -- What a program does for a record, from what the calls of a tree promise. Over any kind of tree.
-use Prim.Native.Nat.{ℕ, min}
+use Prim.Native.Nat.{ℕ, _+_, _*_, _≤_, _<_, min}
 use mathlib.Core.Path.{_≡_, refl, sym, ap, _∙_, subst}
 use mathlib.Core.Bool.{Bool, true, false, cond, _||_, or-false, or-true}
 use mathlib.Core.List.{List, [], _∷_, _++_, append-nil}
 use mathlib.Core.Option.{none, some}
+use native.Mathlib.Nat.{le-trans, mul-le-mul-left}
+use native.Mathlib.Omega.{arith}
 use lib.Dec.{T, eqb, leb}
-use lib.ListN.{length}
+use lib.ListN.{length, getD}
+use lib.Ieee.{Float}
 use Rattle.model.specs.Boxes.{Side, acceptable}
+use Rattle.model.specs.Soundness.{All}
 use Rattle.model.specs.Trees.{Point}
+use Rattle.model.specs.Trees as trees
 use Rattle.model.specs.Searches.{box, nearest, radius}
 use Rattle.model.specs.Calls.{Ask, Box, Call, Clear, Contains, Create, Delete, Insert, IsEmpty, Kind, Len, Nearest, Outcome, Plan, Query, Radius, Reply, State, ask, badBoundary, broken, call, create, empty, give, misfit, noCapacity, noRoom, noTree, number, onBroken, refuse, searchCall, step, tree}
 use Rattle.model.proofs.Calls.{delete-ends, insert-ends}
 use Rattle.model.proofs.Counts.{cond-same}
-use Rattle.trees.specs.Pieces.{AsksHeld, Does, DoesHeld, Pieces, Says}
+use Rattle.trees.specs.Pieces.{AsksHeld, Does, DoesHeld, Pieces, Says, SearchesHeld, roomFor}
 use Rattle.record.specs.Numbers.{decimal}
-use Rattle.replies.specs.Lines.{after, answer, crlf, field, heard, held?, line, makes, told}
-use Rattle.replies.specs.Programs.{Answers, Keeps, Wrote}
+use Rattle.replies.specs.Lines.{after, answer, crlf, field, heard, held?, line, makes, points, told}
+use Rattle.replies.specs.Printed.{Prints, ShapedPoint}
+use Rattle.replies.specs.Programs.{Answers, Keeps, Wrote, longest}
+use Rattle.replies.proofs.Lines.{line-figure, line-reply, line-told}
+use Rattle.replies.proofs.Shapes.{Asked, held-shaped}
 
 -- ---- a call on a tree leaves a tree
 abbrev pub Stays : Kind → Call → Type 0
@@ -59,21 +67,9 @@ heard-create : (k : Kind) (a : State) (b : List Side) (cap : ℕ) → heard k a 
 unfolding heard makes
 heard-create k a b cap = ap (λ (t : Bool). elim t as (λ u. Outcome) [ true ↦ step k a (Create b cap) | false ↦ refuse noTree a ]) (or-true (held? a))
 
--- ---- lines
+-- ---- what stands after the reply number
 abbrev Bare : Call → Type 0
 Bare c = (o : Outcome) → after c o ≡ []
-
-line-bare : (c : Call) → Bare c → (o : Outcome) → line c o ≡ decimal (number (o .reply)) ++ crlf
-unfolding line
-line-bare c f o = go (eqb (number (o .reply)) 0)
-  where
-    go : (t : Bool) → decimal (number (o .reply)) ++ cond t (after c o) [] ++ crlf ≡ decimal (number (o .reply)) ++ crlf
-    go true = ap (λ (l : List ℕ). decimal (number (o .reply)) ++ l ++ crlf) (f o) ∙ ap (λ (l : List ℕ). l ++ crlf) (append-nil (decimal (number (o .reply))))
-    go false = ap (λ (l : List ℕ). l ++ crlf) (append-nil (decimal (number (o .reply))))
-
-pub line-refused : (c : Call) (o : Outcome) → eqb (number (o .reply)) 0 ≡ false → line c o ≡ decimal (number (o .reply)) ++ crlf
-unfolding line
-line-refused c o e = ap (λ (t : Bool). decimal (number (o .reply)) ++ cond t (after c o) [] ++ crlf) e ∙ ap (λ (l : List ℕ). l ++ crlf) (append-nil (decimal (number (o .reply))))
 
 pub insert-bare : (p : Point) → Bare (Insert p)
 unfolding after
@@ -107,12 +103,21 @@ pub len-figured : Figured Len
 unfolding told
 len-figured o = refl
 
-line-figured : (q : Query) → Figured q → (o : Outcome) (n : ℕ) → 0 ≡ number (o .reply) → n ≡ o .figure → decimal 0 ++ field (decimal n) ++ crlf ≡ line (Ask q) o
-unfolding line after
-line-figured q f o n e g =
-    ap (λ (j : ℕ). decimal 0 ++ field (decimal j) ++ crlf) g
-    ∙ ap (λ (l : List ℕ). decimal 0 ++ l ++ crlf) (sym (f o))
-    ∙ ap (λ (j : ℕ). decimal j ++ cond (eqb j 0) (told q o) [] ++ crlf) e
+-- the points that a search found
+abbrev Pointed : Query → Type 0
+Pointed q = (o : Outcome) → told q o ≡ field (decimal (o .figure)) ++ points (o .points)
+
+pub radius-pointed : (c : List Float) (r : Float) (n : ℕ) → Pointed (Radius c r n)
+unfolding told
+radius-pointed c r n o = refl
+
+pub box-pointed : (b : List Side) (n : ℕ) → Pointed (Box b n)
+unfolding told
+box-pointed b n o = refl
+
+pub nearest-pointed : (c : List Float) (m n : ℕ) → Pointed (Nearest c m n)
+unfolding told
+nearest-pointed c m n o = refl
 
 tree-held : (a : Plan) → held? (tree a) ≡ true
 unfolding held?
@@ -158,13 +163,16 @@ module _ (k : Kind) (held : Bool) (s : Pieces) (out : List ℕ) (at : ℕ) (out'
   only-tree c held' s' e go broken y = absurd (subst T (sym e ∙ y .0) tt)
   only-tree c held' s' e go (tree a) y = subst (λ (o : Outcome). Wrote out at (line c o) out' r × Keeps k held' s' (o .state)) (sym (heard-tree k a c)) (go a (y .1))
 
+  still : (q : Query) (a : Plan) → held ≡ true → Says k s (tree a) → Keeps k held s (step k (tree a) (Ask q) .state)
+  still q a e y = subst (λ (b : State). (held ≡ held? b) × Says k s b) (sym (ask-state k a q)) (e ∙ sym (tree-held a), y)
+
   -- a change: its reply alone
   pub answers-change : (c : Call) (s' : Pieces) (q n : ℕ) → Bare c → Stays k c → held ≡ true → DoesHeld k c s s' q n → Wrote out at (decimal q ++ crlf) out' r
       → Answers k (some c) held s held s' out at out' r
   unfolding DoesHeld
   answers-change c s' q n f st e d w = only-tree c held s' e (λ a y.
       let g = d a y in
-      let l : decimal q ++ crlf ≡ line c (step k (tree a) c) = ap (λ (j : ℕ). decimal j ++ crlf) (g .reply) ∙ sym (line-bare c f (step k (tree a) c)) in
+      let l : decimal q ++ crlf ≡ line c (step k (tree a) c) = ap (λ (j : ℕ). decimal j ++ crlf) (g .reply) ∙ sym (line-reply c (step k (tree a) c) (f (step k (tree a) c))) in
       (subst (λ (t : List ℕ). Wrote out at t out' r) l w, (e ∙ sym (st a), g .after)))
 
   -- a yes or no, or a count
@@ -174,7 +182,21 @@ module _ (k : Kind) (held : Bool) (s : Pieces) (out : List ℕ) (at : ℕ) (out'
   answers-figure q n f e d w = only-tree (Ask q) held s e (λ a y.
       let g = d a y in
       let st = ask-state k a q in
-      (subst (λ (t : List ℕ). Wrote out at t out' r) (line-figured q f (step k (tree a) (Ask q)) n (g .reply) (g .figure)) w, subst (λ (b : State). (held ≡ held? b) × Says k s b) (sym st) (e ∙ sym (tree-held a), y)))
+      let o = step k (tree a) (Ask q) in
+    let l : decimal 0 ++ field (decimal n) ++ crlf ≡ line (Ask q) o = ap (λ (j : ℕ). decimal 0 ++ field (decimal j) ++ crlf) (g .figure) ∙ sym (line-figure q o (f o) (sym (g .reply))) in
+    (subst (λ (t : List ℕ). Wrote out at t out' r) l w, still q a e y))
+
+  -- a search: the points that it handed over
+  pub answers-told : (q : Query) (cs ms coords marks : List ℕ) (reply n : ℕ) → Pointed q → ((a : Plan) → All (ShapedPoint (k .axes)) (trees.held 32 (a .root)) → Asked (k .axes) 512 (step k (tree a) (Ask q)))
+      → ((i : ℕ) → getD (s .points) i 0 < 256) → 512 ≤ roomFor (k .axes) coords marks → at + longest (k .axes) ≤ length out
+      → held ≡ true → SearchesHeld k q s cs ms coords marks reply n → Prints (k .axes) coords marks reply n out at out' r → Answers k (some (Ask q)) held s held s out at out' r
+  unfolding SearchesHeld Prints
+  answers-told q cs ms coords marks reply n f asked low room fit e d w = only-tree (Ask q) held s e (λ a y.
+    let o = step k (tree a) (Ask q) in
+    let h = asked a (held-shaped k s a y low) in
+    let m : (17 * k .axes + 11) * o .figure ≤ (17 * k .axes + 11) * 512 = mul-le-mul-left (17 * k .axes + 11) (h .1) in
+    let x : at + (14 + (17 * k .axes + 11) * o .figure) ≤ length out = omega (arith, m, fit) in
+    (subst (λ (t : List ℕ). Wrote out at t out' r) (sym (line-told q o (f o))) (w o cs ms (d a y) (h .0) (le-trans (h .1) room) x), still q a e y))
 
   -- a creation: its reply alone
   pub answers-create : (b : List Side) (cap : ℕ) (s' : Pieces) (q : ℕ) (held' : Bool) → Does k (Create b cap) s s' q 0 → held' ≡ held || eqb q 0 → Wrote out at (decimal q ++ crlf) out' r
@@ -183,6 +205,6 @@ module _ (k : Kind) (held : Bool) (s : Pieces) (out : List ℕ) (at : ℕ) (out'
   answers-create b cap s' q held' d eh w a y =
       let g = d a (y .1) in
       let o = step k a (Create b cap) in
-      let l : decimal q ++ crlf ≡ line (Create b cap) o = ap (λ (j : ℕ). decimal j ++ crlf) (g .reply) ∙ sym (line-bare (Create b cap) (create-bare b cap) o) in
+      let l : decimal q ++ crlf ≡ line (Create b cap) o = ap (λ (j : ℕ). decimal j ++ crlf) (g .reply) ∙ sym (line-reply (Create b cap) o (create-bare b cap o)) in
       let h : held' ≡ held? (o .state) = eh ∙ ap (λ (t : Bool). t || eqb q 0) (y .0) ∙ ap (λ (j : ℕ). held? a || eqb j 0) (g .reply) ∙ step-held k a b cap in
       subst (λ (o : Outcome). Wrote out at (line (Create b cap) o) out' r × Keeps k held' s' (o .state)) (sym (heard-create k a b cap)) (subst (λ (t : List ℕ). Wrote out at t out' r) l w, (h, g .after))

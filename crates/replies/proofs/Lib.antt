@@ -3,6 +3,6 @@ pub mod Lines
 pub mod Hexes
 pub mod Points
 pub mod Told
-pub mod Answers
 pub mod Shapes
 pub mod Runs
+pub mod Answers
