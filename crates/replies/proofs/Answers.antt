@@ -3,7 +3,7 @@ use Prim.Native.Nat.{ℕ, _+_, _*_, _≤_, _<_, min}
 use mathlib.Core.Path.{_≡_, refl, sym, ap, _∙_, subst}
 use mathlib.Core.Bool.{Bool, true, false, cond, _||_, or-false, or-true}
 use mathlib.Core.List.{List, [], _∷_, _++_, append-nil}
-use mathlib.Core.Option.{none, some}
+use mathlib.Core.Option.{Option, none, some}
 use native.Mathlib.Nat.{le-trans, mul-le-mul-left}
 use native.Mathlib.Omega.{arith}
 use lib.Dec.{T, eqb, leb}
@@ -141,6 +141,10 @@ step-held k (tree p) b cap = create-held (tree p) b cap
 
 -- ---- a record is answered
 module _ (k : Kind) (held : Bool) (s : Pieces) (out : List ℕ) (at : ℕ) (out' : List ℕ) (r : ℕ) where
+  -- what a record says, by a command
+  pub answers-as : (c d : Option Call) (held' : Bool) (s' : Pieces) → d ≡ c → Answers k c held s held' s' out at out' r → Answers k d held s held' s' out at out' r
+  answers-as c d held' s' e w = subst (λ (b : Option Call). Answers k b held s held' s' out at out' r) (sym e) w
+
   -- 9
   pub answers-bad : Wrote out at (decimal 9 ++ crlf) out' r → Answers k none held s held s out at out' r
   unfolding Answers answer number

@@ -1,39 +1,34 @@
+use mathlib.Core.Path.{refl}
+use native.Mathlib.Omega.{arith}
+use borrow.Author.Tests.{not-false, not-true}
+use Rattle.model.specs.Calls.{quadtree}
+use Rattle.replies.specs.Lines.{makes}
+use Rattle.replies.proofs.Answers.{answers-figure, answers-none, len-figured}
 use borrow.Author.Needs.{needs}
 use Rattle.quad.proofs.answer.len.Statement.{statement}
 use Rattle.quad.proofs.answer.len.Tie as tie
-use Rattle.quad.proofs.answer.len.Reads as reads
-use Rattle.quad.proofs.answer.len.Lts as lts
-use Rattle.pieces.proofs.len.Reads as len-reads
-use Rattle.replies.proofs.put_figure.Reads as put-figure-reads
-use Rattle.replies.proofs.put_reply.Reads as put-reply-reads
 
--- src/answer.rt:151:9
 put-reply-requires : tie.Need-put-reply-requires
 put-reply-requires c κs = search needs
 
--- src/answer.rt:151:9
 same-length : tie.Need-same-length
 same-length c = search needs
 
--- src/answer.rt:151:9
 returns : tie.Need-returns
-returns c = ?
+unfolding makes
+returns c = (λ h. answers-none quadtree _ _ _ _ _ _ _ refl (not-true _ (c .before .before .before .before .if1 .taken)) (c .before .before .put-reply .ensures .0 (omega (arith, h))), c .before .before .put-reply .ensures .1)
 
--- src/answer.rt:153:9
 len-requires : tie.Need-len-requires
 len-requires c κs = search needs
 
--- src/answer.rt:154:5
 put-figure-requires : tie.Need-put-figure-requires
 put-figure-requires c κs = search needs
 
--- src/answer.rt:138:1
 same-length-2 : tie.Need-same-length-2
 same-length-2 c = search needs
 
--- src/answer.rt:138:1
 returns-2 : tie.Need-returns-2
-returns-2 c = ?
+returns-2 c = (λ h. answers-figure quadtree _ _ _ _ _ _ _ _ len-figured (not-false _ (c .before .before .before .before .before .if1 .left)) (c .before .before .before .before .len .ensures quadtree _ _ _) (c .before .before .put-figure .ensures .0 (omega (arith, h))), c .before .before .put-figure .ensures .1)
 
 pub len-spec : {M : Type 1} → statement M
 len-spec =
