@@ -1,22 +1,19 @@
 -- Laws of one field as a number. Assumes nothing.
 use Prim.Native.Nat.{ℕ, _+_, _-_, _*_, _^_, _≤_, _<_}
 use mathlib.Core.Path.{_≡_, refl, sym, ap, _∙_, subst}
-use mathlib.Core.Bool.{Bool, true, false, not, cond, _&&_, _||_, and-false, and-eq-true-iff}
+use mathlib.Core.Bool.{Bool, true, false, not, _&&_, _||_, and-false, and-eq-true-iff}
 use mathlib.Core.List.{List, [], _∷_}
-use mathlib.Core.Option.{Option, none, some}
+use mathlib.Core.Option.{none, some}
 use native.Mathlib.Nat.{le-refl, le-trans, pow-succ', pow-le-pow-right, lt-of-lt-of-le}
 use native.Mathlib.Numerals.{add-one}
 use native.Mathlib.Omega.{arith}
 use lib.ListN.{length, getD, drop}
 use lib.Seq.{drop-cons, drop-length}
-use lib.Dec.{T, eqb, ltb, leb}
-use lib.Ieee.{Float, binary64, ofBits}
+use lib.Dec.{T, eqb, ltb}
+use lib.Ieee.{binary64, ofBits}
 use borrow.Author.Tests.{lt-ltb, le-ltb, le-leb, lt-leb, eq-eqb, ne-eqb, ltb-true, ltb-false}
 use mir.Val.{boolByte}
 use Rattle.record.specs.Numbers.{digit, digits, value, led, numberOf, wholeOf}
-use Rattle.record.specs.Read.{floatIn, wholeIn}
-use Rattle.record.specs.declared.numbers.Number.the-variants as number
-use Rattle.record.specs.declared.numbers.Whole.the-variants as whole
 
 -- ---- a digit by its tests
 

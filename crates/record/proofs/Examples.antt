@@ -7,7 +7,6 @@ use mathlib.Core.Option.{Option, none, some}
 use lib.IntN.{pos}
 use lib.ListN.{replicate}
 use lib.Ieee.{Float, fin, ofBits}
-use Rattle.model.specs.Boxes.{Side}
 use Rattle.model.specs.Calls.{Call, Create, Insert, Delete, Clear, Ask, Len, Radius, Nearest}
 use Rattle.record.specs.Text.{grow, splitStep, split, same, has}
 use Rattle.record.specs.Numbers.{digit, digits, value, led, numberOf, wholeOf}

@@ -1,17 +1,16 @@
 -- Laws of the records of an input, for any meaning `of` of one record: a line that has ended is read, of one that has not 133 bytes are enough, and what is left
 -- at the end is one record or none. Assumes nothing.
-use Prim.Native.Nat.{ℕ, zero, suc, _+_, _-_, _≤_, _<_, min, suc-le-suc}
-use mathlib.Core.Path.{_≡_, refl, sym, ap, ap₂, _∙_, subst}
+use Prim.Native.Nat.{ℕ, zero, suc, _+_, _-_, _≤_, _<_, suc-le-suc}
+use mathlib.Core.Path.{_≡_, refl, sym, ap, ap₂, _∙_}
 use mathlib.Core.Bool.{Bool, true, false, cond}
 use mathlib.Core.List.{List, [], _∷_, _++_, append-nil}
-use mathlib.Core.Option.{Option, none, some}
+use mathlib.Core.Option.{Option, none}
 use native.Mathlib.Nat.{not-suc-le-zero}
-use native.Mathlib.Numerals.{add-one}
 use native.Mathlib.Omega.{arith}
-use lib.ListN.{length, getD, take, drop, set, List·getD-append, length-append, length-take, length-drop}
+use lib.ListN.{length, getD, take, drop, List·getD-append, length-append, length-take, length-drop}
 use lib.Seq.{take-append-le, drop-append-le, take-take, getD-take, getD-drop, drop-drop, length-take-le, take-nil, take-length, take-all}
-use lib.Dec.{T, eqb, leb}
-use borrow.Author.Tests.{lt-leb, le-leb, eq-eqb, ne-eqb}
+use lib.Dec.{eqb, leb}
+use borrow.Author.Tests.{lt-leb, eq-eqb, ne-eqb}
 use Rattle.model.specs.Calls.{Call}
 use Rattle.record.specs.Text.{grow, split, same}
 use Rattle.record.specs.Input.{strip, ended, unended, parts, mark, unmarked, begun, records}

@@ -1,7 +1,7 @@
 -- Laws of the word of a record. Assumes nothing.
 use Prim.Native.Nat.{ℕ}
 use mathlib.Core.Path.{_≡_, ap, sym, _∙_}
-use mathlib.Core.Bool.{Bool, true, false, cond}
+use mathlib.Core.Bool.{Bool, false, cond}
 use mathlib.Core.List.{List}
 use Rattle.record.specs.Text.{same}
 use Rattle.record.specs.Commands.{wordOf, word-insert, word-delete, word-contains, word-range, word-knn, word-box, word-len, word-clear}

@@ -6,6 +6,9 @@ use Rattle.record.proofs.Parts.{same-no}
 use Rattle.record.proofs.Words.{Other, made-word, no-word}
 use Rattle.record.proofs.fields.word_of.Statement.{statement}
 use Rattle.record.proofs.fields.word_of.Tie as tie
+use Rattle.record.proofs.fields.word_of.Reads as reads
+use Rattle.record.proofs.fields.word_of.Lts as lts
+use Rattle.check.proofs.same.Reads as same-reads
 
 slice-aggregate-same : tie.Need-slice-aggregate-same
 slice-aggregate-same c = search needs
@@ -90,17 +93,17 @@ returns-8 c = sym (ap (wordOf _) (c .before .same8 .ensures .0 (c .if8 .taken)))
 same-requires-9 : tie.Need-same-requires-9
 same-requires-9 c κs = search needs
 
-returns-9 : tie.Need-returns-9
-returns-9 c =
-    let d8 = c .before .before in
-    let d7 = d8 .before .before .before in
+-- none of the words before the last test
+others : (c : lts.Else8 (same-reads.Asked, same-reads.Learnt) reads.Pre reads.Post) → Other (c .before .before .before .before .before .before .before .before .before .before .before .before .before .before .before .before .before .before .before .before .before .before .before .before .before .before .args .w .now)
+others c =
+    let d7 = c .before .before .before in
     let d6 = d7 .before .before .before in
     let d5 = d6 .before .before .before in
     let d4 = d5 .before .before .before in
     let d3 = d4 .before .before .before in
     let d2 = d3 .before .before .before in
     let d1 = d2 .before .before .before in
-    made-word _ _ record {
+    record {
       insert = same-no _ _ _ (d1 .before .same .ensures .1) (d1 .if1 .left);
       delete = same-no _ _ _ (d2 .before .same2 .ensures .1) (d2 .if2 .left);
       contains = same-no _ _ _ (d3 .before .same3 .ensures .1) (d3 .if3 .left);
@@ -108,29 +111,14 @@ returns-9 c =
       knn = same-no _ _ _ (d5 .before .same5 .ensures .1) (d5 .if5 .left);
       box = same-no _ _ _ (d6 .before .same6 .ensures .1) (d6 .if6 .left);
       len = same-no _ _ _ (d7 .before .same7 .ensures .1) (d7 .if7 .left);
-      clear = same-no _ _ _ (d8 .before .same8 .ensures .1) (d8 .if8 .left);
-    } (c .before .same9 .ensures .0 (c .if9 .taken))
+      clear = same-no _ _ _ (c .before .same8 .ensures .1) (c .if8 .left);
+    }
+
+returns-9 : tie.Need-returns-9
+returns-9 c = made-word _ _ (others (c .before .before)) (c .before .same9 .ensures .0 (c .if9 .taken))
 
 returns-10 : tie.Need-returns-10
-returns-10 c =
-    let d8 = c .before .before in
-    let d7 = d8 .before .before .before in
-    let d6 = d7 .before .before .before in
-    let d5 = d6 .before .before .before in
-    let d4 = d5 .before .before .before in
-    let d3 = d4 .before .before .before in
-    let d2 = d3 .before .before .before in
-    let d1 = d2 .before .before .before in
-    no-word _ _ record {
-      insert = same-no _ _ _ (d1 .before .same .ensures .1) (d1 .if1 .left);
-      delete = same-no _ _ _ (d2 .before .same2 .ensures .1) (d2 .if2 .left);
-      contains = same-no _ _ _ (d3 .before .same3 .ensures .1) (d3 .if3 .left);
-      range = same-no _ _ _ (d4 .before .same4 .ensures .1) (d4 .if4 .left);
-      knn = same-no _ _ _ (d5 .before .same5 .ensures .1) (d5 .if5 .left);
-      box = same-no _ _ _ (d6 .before .same6 .ensures .1) (d6 .if6 .left);
-      len = same-no _ _ _ (d7 .before .same7 .ensures .1) (d7 .if7 .left);
-      clear = same-no _ _ _ (d8 .before .same8 .ensures .1) (d8 .if8 .left);
-    } (same-no _ _ _ (c .before .same9 .ensures .1) (c .if9 .left))
+returns-10 c = no-word _ _ (others (c .before .before)) (same-no _ _ _ (c .before .same9 .ensures .1) (c .if9 .left))
 
 pub word-of-spec : {M : Type 1} → statement M
 word-of-spec =

@@ -1,6 +1,6 @@
 use borrow.Author.Needs.{needs}
 use borrow.Author.Tests.{not-true, not-false}
-use mathlib.Core.Path.{_≡_, sym, _∙_, subst}
+use mathlib.Core.Path.{sym, _∙_, subst}
 use lib.Dec.{T}
 use Rattle.record.proofs.Streams.{begun-later, begun-mark, begun-other, begun-short}
 use Rattle.record.proofs.lines.skipped.Statement.{statement}

@@ -1,9 +1,9 @@
 use native.Mathlib.Omega.{arith}
 use mathlib.Core.Option.{some}
 use Rattle.record.specs.Read.{floatIn}
-use Prim.Native.Nat.{ℕ, _≤_, _<_, _-_, _^_}
+use Prim.Native.Nat.{_≤_, _<_, _-_, _^_}
 use mathlib.Core.Path.{_≡_, refl, ap, _∙_}
-use lib.ListN.{length, getD, drop}
+use lib.ListN.{length, drop}
 use Rattle.record.specs.Numbers.{digits, value}
 use Rattle.record.proofs.Digits.{number-short, number-bad, number-good, hex-fits, hex-room, digits-no, digits-yes, digits-all, value-more, value-all}
 use borrow.Author.Needs.{needs}

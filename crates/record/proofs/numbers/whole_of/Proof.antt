@@ -1,7 +1,7 @@
 use borrow.Author.Tests.{not-true, not-false}
-use Prim.Native.Nat.{ℕ, _≤_, _<_, _-_, _+_}
+use Prim.Native.Nat.{_≤_, _-_, _+_}
 use mathlib.Core.Path.{_≡_, refl, sym, _∙_}
-use lib.ListN.{length, getD, drop}
+use lib.ListN.{length, drop}
 use Rattle.record.specs.Numbers.{digits, value}
 use Rattle.record.specs.Read.{wholeIn}
 use Rattle.record.proofs.Digits.{whole-unled, whole-bad, whole-large, whole-good, digits-no, digits-yes, digits-all, value-more, value-all}
