@@ -62,6 +62,11 @@ stands start s from n h e l t = (
 
 -- ---- a line that has ended
 
+-- what it says, from where its record stands
+pub ended-is : (of : List ℕ → Option Call) (s : List ℕ) (fits : Bool) (t : List ℕ) → fits ≡ leb (length (strip s)) 128 → t ≡ strip s → cond fits (of t) none ≡ ended of s
+unfolding ended
+ended-is of s fits t e f = ap₂ (λ (b : Bool) (u : List ℕ). cond b (of u) none) e f
+
 parts-cons : (of : List ℕ → Option Call) (p : List ℕ) (ps : List (List ℕ)) → (ps ≡ [] → ⊥) → parts of (p ∷ ps) ≡ ended of p ∷ parts of ps
 unfolding parts
 parts-cons of p [] h = absurd (h refl)
