@@ -6,3 +6,4 @@ pub mod Told
 pub mod Shapes
 pub mod Runs
 pub mod Answers
+pub mod Feeds

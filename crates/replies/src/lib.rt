@@ -3,13 +3,17 @@ ghost use mathlib.Core.Path.{_≡_};
 ghost use mathlib.Core.List.{[], _∷_, _++_};
 ghost use Prim.Native.Nat.{_+_, _*_, _<_, _≤_};
 ghost use lib.ListN.{length};
+ghost use lib.Dec.{leb};
+ghost use Rattle.model.specs.Calls.{Kind, State};
 ghost use Rattle.trees.specs.Pieces.{roomFor};
 ghost use Rattle.record.specs.Numbers as Numbers;
 ghost use Rattle.record.specs.Numbers.{spelt, decimal};
-ghost use Rattle.replies.specs.Lines.{crlf, field};
+ghost use Rattle.record.specs.Input.{begun, unended};
+ghost use Rattle.replies.specs.Lines.{crlf, field, lines};
 ghost use Rattle.replies.specs.Printed.{hexAt, pointAt, pointsFrom, Prints};
-ghost use Rattle.replies.specs.Programs.{Wrote};
+ghost use Rattle.replies.specs.Programs.{Wrote, longest};
 use answers::room;
+use record::lines::skipped;
 use words::get;
 
 // The character of a digit: arithmetic, since digits and letters alternate at random.
@@ -250,4 +254,28 @@ pub fn put_told(
         return at;
     }
     put_found(out, at, axes, count, coords, payloads)
+}
+
+// Whether there is room for the longest line.
+pub fn has_room(axes: u8, out: &[u8], at: usize) -> bool
+    ensures { λ r. ⌜ r ≡ leb (at + longest axes) (length (now (out .entry))) ⌝ }
+{
+    let size = out.len();
+    if at > size {
+        return false;
+    }
+    let line = 14 + (17 * (axes as usize) + 11) * 512;
+    line <= size - at
+}
+
+// Answers what stands after the last line end: nothing, or a record that has none.
+pub fn finish(text: &[u8], start: bool, out: &mut [u8]) -> usize
+    ensures { λ r. ⌜ (12 ≤ length (now (out .entry)) → (k : Kind) (a : State) → Wrote (now (out .entry)) 0 (lines k a (unended (begun start (now (text .entry))))) (now (out .exit)) r) ⌝ }
+    ensures within { λ r. ⌜ r ≤ length (now (out .entry)) ⌝ }
+{
+    let n = skipped(text, start);
+    if n < text.len() {
+        return put_reply(out, 0, 9);
+    }
+    0
 }
