@@ -3,4 +3,141 @@ mod answer;
 mod command;
 mod stream;
 
-fn main() {}
+ghost use Prim.Native.Nat.{_≤_};
+ghost use lib.ListN.{length};
+ghost use Rattle.replies.specs.Programs.{longest};
+use record::lines::keep;
+use replies::finish;
+use stream::Step;
+use stream::feed;
+
+// Where the program is: how many bytes are carried at the front of the text, whether the very start is still ahead, whether a tree is held, and whether
+// the input goes on.
+struct Place {
+    carried: usize,
+    start: bool,
+    held: bool,
+    more: bool,
+}
+
+// Answers the lines of the text and writes the answers, till no line feed is left.
+fn drain(
+    text: &[u8],
+    start: bool,
+    held: bool,
+    head: &mut [u8],
+    nodes: &mut [u8],
+    links: &mut [u8],
+    points: &mut [u8],
+    out: &mut [u8],
+) -> Step
+    requires { ⌜ longest 2 ≤ length (now out) ⌝ }
+    ensures { λ r. ⌜ r .read ≤ length (now (text .entry)) ⌝ }
+{
+    let mut at = 0;
+    let mut first = start;
+    let mut has = held;
+    let mut why: u8 = 1;
+    while why > 0 {
+        let s = feed(&text[at..], first, has, head, nodes, links, points, out);
+        let to = s.to;
+        io::write_all(1, &out[0..to]);
+        at += s.read;
+        first = s.start;
+        has = s.held;
+        why = s.why;
+    }
+    Step {
+        read: at,
+        to: 0,
+        start: first,
+        held: has,
+        why,
+    }
+}
+
+// Reads behind what is carried, answers the lines, and carries the rest. At the end of the input the rest is answered.
+fn turn(
+    place: Place,
+    head: &mut [u8],
+    nodes: &mut [u8],
+    links: &mut [u8],
+    points: &mut [u8],
+    text: &mut [u8],
+    out: &mut [u8],
+) -> Place
+    requires { ⌜ (place .carried ≤ 133) × (133 ≤ length (now text)) × (longest 2 ≤ length (now out)) ⌝ }
+    ensures { λ r. ⌜ r .carried ≤ 133 ⌝ }
+{
+    let n = place.carried;
+    let got = libc::read(0, &mut text[n..]);
+    let total = n + io::count(got, &text[n..]);
+    if total == n {
+        let to = finish(&text[0..n], place.start, out);
+        io::write_all(1, &out[0..to]);
+        return Place {
+            carried: 0,
+            start: false,
+            held: place.held,
+            more: false,
+        };
+    }
+    let s = drain(
+        &text[0..total],
+        place.start,
+        place.held,
+        head,
+        nodes,
+        links,
+        points,
+        out,
+    );
+    let m = keep(text, s.read, total);
+    Place {
+        carried: m,
+        start: s.start,
+        held: s.held,
+        more: true,
+    }
+}
+
+fn run(
+    head: &mut [u8],
+    nodes: &mut [u8],
+    links: &mut [u8],
+    points: &mut [u8],
+    text: &mut [u8],
+    out: &mut [u8],
+)
+    requires { ⌜ (133 ≤ length (now text)) × (longest 2 ≤ length (now out)) ⌝ }
+{
+    let mut place = Place {
+        carried: 0,
+        start: true,
+        held: false,
+        more: true,
+    };
+    // Nothing says that the input ends, so turns are counted.
+    let mut turns = u64::MAX;
+    while turns > 0 && place.more {
+        place = turn(place, head, nodes, links, points, text, out);
+        turns -= 1;
+    }
+}
+
+fn main() {
+    let mut head: [u8; 40] = [0; 40];
+    let mut nodes: [u8; 5504] = [0; 5504];
+    let mut links: [u8; 2052] = [0; 2052];
+    let mut points: [u8; 12312] = [0; 12312];
+    let mut text = io::large_buffer();
+    let mut out = io::large_buffer();
+    run(
+        &mut head,
+        &mut nodes,
+        &mut links,
+        &mut points,
+        &mut text,
+        &mut out,
+    );
+}

@@ -13,6 +13,7 @@ use crate::command::Command;
 use crate::command::parse;
 use record::fields::find;
 use record::lines::line_of;
+use replies::has_room;
 
 // How far the reading came: bytes read, where the next line goes, whether the very start is still ahead, whether a tree is held, and why it stopped: 0 where no
 // line feed is left, 1 where there is no room for a line, 2 after a line.
@@ -54,17 +55,7 @@ fn read_line(
     ensures went { λ r. ⌜ (r .why ≤ 2) × (2 ≤ r .why → 1 ≤ r .read) × (r .why < 2 → (r .read ≡ 0) × (r .to ≡ at)) ⌝ }
     ensures stopped { λ r. ⌜ (r .why ≡ 0 → Unended (now (text .entry))) × (r .why ≡ 1 → length (now (out .entry)) < at + longest 2) ⌝ }
 {
-    let size = out.len();
-    if (size < 23054) | (at > size) {
-        return Step {
-            read: 0,
-            to: at,
-            start,
-            held,
-            why: 1,
-        };
-    }
-    if size - at < 23054 {
+    if !has_room(2, out, at) {
         return Step {
             read: 0,
             to: at,
@@ -91,5 +82,42 @@ fn read_line(
         start: false,
         held: after.held,
         why: 2,
+    }
+}
+
+// Answers the lines of the text, till no line feed or no room is left.
+pub fn feed(
+    text: &[u8],
+    start: bool,
+    held: bool,
+    head: &mut [u8],
+    nodes: &mut [u8],
+    links: &mut [u8],
+    points: &mut [u8],
+    out: &mut [u8],
+) -> Step
+    ensures { λ r. ⌜ ((a : State) → Keeps quadtree held (pieces (now (head .entry)) (now (nodes .entry)) (now (links .entry)) (now (points .entry))) a → Feeds quadtree says a start (now (text .entry)) (r .held) (pieces (now (head .exit)) (now (nodes .exit)) (now (links .exit)) (now (points .exit))) (r .start) (drop (r .read) (now (text .entry))) (now (out .entry)) 0 (now (out .exit)) (r .to)) ⌝ }
+    ensures bounds { λ r. ⌜ (r .read ≤ length (now (text .entry))) × (r .to ≤ length (now (out .entry))) ⌝ }
+    ensures stopped { λ r. ⌜ (r .why ≤ 1) × (r .why ≡ 0 → Unended (drop (r .read) (now (text .entry)))) × (r .why ≡ 1 → longest 2 ≤ length (now (out .entry)) → 1 ≤ r .read) ⌝ }
+{
+    let mut at = 0;
+    let mut to = 0;
+    let mut first = start;
+    let mut has = held;
+    let mut why: u8 = 2;
+    while why > 1 {
+        let s = read_line(&text[at..], first, has, head, nodes, links, points, out, to);
+        at += s.read;
+        to = s.to;
+        first = s.start;
+        has = s.held;
+        why = s.why;
+    }
+    Step {
+        read: at,
+        to,
+        start: first,
+        held: has,
+        why,
     }
 }

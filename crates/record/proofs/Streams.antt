@@ -63,9 +63,13 @@ stands start s from n h e l t = (
 -- ---- a line that has ended
 
 -- what it says, from where its record stands
-pub ended-is : (of : List ℕ → Option Call) (s : List ℕ) (fits : Bool) (t : List ℕ) → fits ≡ leb (length (strip s)) 128 → t ≡ strip s → cond fits (of t) none ≡ ended of s
+pub ended-long : (of : List ℕ → Option Call) (s : List ℕ) (fits : Bool) → fits ≡ leb (length (strip s)) 128 → fits ≡ false → none ≡ ended of s
 unfolding ended
-ended-is of s fits t e f = ap₂ (λ (b : Bool) (u : List ℕ). cond b (of u) none) e f
+ended-long of s fits e f = ap (λ (b : Bool). cond b (of (strip s)) none) (sym f ∙ e)
+
+pub ended-short : (of : List ℕ → Option Call) (s : List ℕ) (fits : Bool) (t : List ℕ) (c : Option Call) → fits ≡ leb (length (strip s)) 128 → fits ≡ true → t ≡ strip s → c ≡ of t → c ≡ ended of s
+unfolding ended
+ended-short of s fits t c e f g h = h ∙ ap of g ∙ ap (λ (b : Bool). cond b (of (strip s)) none) (sym f ∙ e)
 
 parts-cons : (of : List ℕ → Option Call) (p : List ℕ) (ps : List (List ℕ)) → (ps ≡ [] → ⊥) → parts of (p ∷ ps) ≡ ended of p ∷ parts of ps
 unfolding parts

@@ -187,8 +187,8 @@ module _ (k : Kind) (held : Bool) (s : Pieces) (out : List ℕ) (at : ℕ) (out'
       let g = d a y in
       let st = ask-state k a q in
       let o = step k (tree a) (Ask q) in
-    let l : decimal 0 ++ field (decimal n) ++ crlf ≡ line (Ask q) o = ap (λ (j : ℕ). decimal 0 ++ field (decimal j) ++ crlf) (g .figure) ∙ sym (line-figure q o (f o) (sym (g .reply))) in
-    (subst (λ (t : List ℕ). Wrote out at t out' r) l w, still q a e y))
+      let l : decimal 0 ++ field (decimal n) ++ crlf ≡ line (Ask q) o = ap (λ (j : ℕ). decimal 0 ++ field (decimal j) ++ crlf) (g .figure) ∙ sym (line-figure q o (f o) (sym (g .reply))) in
+      (subst (λ (t : List ℕ). Wrote out at t out' r) l w, still q a e y))
 
   -- a search: the points that it handed over
   pub answers-told : (q : Query) (cs ms coords marks : List ℕ) (reply n : ℕ) → Pointed q → ((a : Plan) → All (ShapedPoint (k .axes)) (trees.held 32 (a .root)) → Asked (k .axes) 512 (step k (tree a) (Ask q)))
@@ -196,11 +196,11 @@ module _ (k : Kind) (held : Bool) (s : Pieces) (out : List ℕ) (at : ℕ) (out'
       → held ≡ true → SearchesHeld k q s cs ms coords marks reply n → Prints (k .axes) coords marks reply n out at out' r → Answers k (some (Ask q)) held s held s out at out' r
   unfolding SearchesHeld Prints
   answers-told q cs ms coords marks reply n f asked low room fit e d w = only-tree (Ask q) held s e (λ a y.
-    let o = step k (tree a) (Ask q) in
-    let h = asked a (held-shaped k s a y low) in
-    let m : (17 * k .axes + 11) * o .figure ≤ (17 * k .axes + 11) * 512 = mul-le-mul-left (17 * k .axes + 11) (h .1) in
-    let x : at + (14 + (17 * k .axes + 11) * o .figure) ≤ length out = omega (arith, m, fit) in
-    (subst (λ (t : List ℕ). Wrote out at t out' r) (sym (line-told q o (f o))) (w o cs ms (d a y) (h .0) (le-trans (h .1) room) x), still q a e y))
+      let o = step k (tree a) (Ask q) in
+      let h = asked a (held-shaped k s a y low) in
+      let m : (17 * k .axes + 11) * o .figure ≤ (17 * k .axes + 11) * 512 = mul-le-mul-left (17 * k .axes + 11) (h .1) in
+      let x : at + (14 + (17 * k .axes + 11) * o .figure) ≤ length out = omega (arith, m, fit) in
+      (subst (λ (t : List ℕ). Wrote out at t out' r) (sym (line-told q o (f o))) (w o cs ms (d a y) (h .0) (le-trans (h .1) room) x), still q a e y))
 
   -- a creation: its reply alone
   pub answers-create : (b : List Side) (cap : ℕ) (s' : Pieces) (q : ℕ) (held' : Bool) → Does k (Create b cap) s s' q 0 → held' ≡ held || eqb q 0 → Wrote out at (decimal q ++ crlf) out' r

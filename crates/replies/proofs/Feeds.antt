@@ -1,6 +1,6 @@
 -- A program's code over its input: lines one after the other, and the end. Over any kind of tree and any meaning `of` of one record.
-use Prim.Native.Nat.{ℕ, _+_, _-_, _≤_, _<_}
-use mathlib.Core.Path.{_≡_, refl, sym, ap, _∙_, subst}
+use Prim.Native.Nat.{ℕ, _+_, _-_, _*_, _≤_, _<_}
+use mathlib.Core.Path.{_≡_, refl, sym, ap, _∙_, subst, subst₂}
 use mathlib.Core.Bool.{Bool, false, true}
 use mathlib.Core.List.{List, [], _∷_, _++_, append-nil}
 use mathlib.Core.Option.{Option, none}
@@ -8,14 +8,17 @@ use native.Mathlib.Nat.{add-zero, sub-zero}
 use native.Mathlib.Omega.{arith}
 use lib.Dec.{leb}
 use lib.ListN.{length, getD, take, drop, length-drop, drop-of-length-le}
+use lib.Seq.{drop-drop}
 use borrow.Author.Tests.{le-leb, leb-false, leb-true, lt-leb}
 use Rattle.model.specs.Calls.{Call, Kind, State, number}
 use Rattle.trees.specs.Pieces.{Pieces}
 use Rattle.record.specs.Input.{begun, ended, records, unended}
 use Rattle.record.specs.Numbers.{decimal}
+use Rattle.record.proofs.Parts.{by-lt, rest-is}
 use Rattle.record.proofs.Streams.{records-line}
 use Rattle.replies.specs.Lines.{answer, crlf, lines}
 use Rattle.replies.specs.Programs.{Answers, Feeds, Keeps, Wrote, longest}
+use Rattle.replies.specs.Runs.{Unended}
 use Rattle.replies.proofs.Runs.{fed-none, fed-one, fed-then}
 use Rattle.replies.proofs.Written.{then}
 
@@ -78,3 +81,56 @@ unfolding lines unended
 finished-none start text n out h e k a =
     let u : begun start text ≡ [] = sym e ∙ drop-of-length-le text h in
     subst (λ (l : List ℕ). Wrote out 0 (lines k a (unended l)) out 0) (sym u) (refl, refl)
+
+-- ---- lines one after the other
+-- where the code is: at a place of the text, with so much written, after a line (2) or stopped, for want of a line feed (0) or of room (1)
+pub record Feeding (k : Kind) (of : List ℕ → Option Call) (start held : Bool) (text : List ℕ) (s₀ : Pieces) (out₀ : List ℕ) (first has : Bool) (s : Pieces) (out : List ℕ) (at to why : ℕ) : Type 0 where
+  pub few : why ≤ 2
+  pub within : at ≤ length text
+  pub room : to ≤ length out₀
+  pub same : length out ≡ length out₀
+  pub feeds : (a : State) → Keeps k held s₀ a → Feeds k of a start text has s first (drop at text) out₀ 0 out to
+  pub nothing : at ≡ 0 → to ≡ 0
+  pub ended : why ≡ 0 → Unended (drop at text)
+  pub full : why ≡ 1 → length out₀ < to + longest (k .axes)
+
+module _ (k : Kind) (of : List ℕ → Option Call) (start held : Bool) (text : List ℕ) (s₀ : Pieces) (out₀ : List ℕ) where
+  pub feeding-start : Feeding k of start held text s₀ out₀ start held s₀ out₀ 0 0 2
+  feeding-start = record {
+    few = omega arith;
+    within = omega arith;
+    room = omega arith;
+    same = refl;
+    feeds = λ a y. feeds-none k of a start held text s₀ out₀ 0 y;
+    nothing = λ e. refl;
+    ended = λ e. absurd (omega (arith, e));
+    full = λ e. absurd (omega (arith, e));
+  }
+
+  module _ (first has : Bool) (s : Pieces) (out : List ℕ) (at to why : ℕ) (f : Feeding k of start held text s₀ out₀ first has s out at to why) where
+    module _ (first' has' : Bool) (s' : Pieces) (out' : List ℕ) (read to' why' : ℕ)
+        (fed : (a : State) → Keeps k has s a → Feeds k of a first (take (length text - at) (drop at text)) has' s' first' (drop read (take (length text - at) (drop at text))) out to out' to')
+        (bounds : (read ≤ length (take (length text - at) (drop at text))) × (to ≤ length out → to' ≤ length out))
+        (went : (why' ≤ 2) × (2 ≤ why' → 1 ≤ read) × (why' < 2 → (read ≡ 0) × (to' ≡ to)))
+        (stopped : (why' ≡ 0 → Unended (take (length text - at) (drop at text))) × (why' ≡ 1 → length out < to + longest (k .axes))) where
+      inside : at + read ≤ length text
+      inside = omega (arith, f .within, bounds .0, length-drop at text, ap (λ (l : List ℕ). length l) (rest-is text at))
+
+      -- the code ends: fewer bytes are left, or it has stopped
+      pub feeding-less : 1 < why → 2 * (length text - (at + read)) + why' < 2 * (length text - at) + why
+      feeding-less h = by-lt why' 2 (λ l. omega (arith, went .2 l .0, h)) (λ l. omega (arith, went .1 l, went .0, inside, h))
+
+      pub feeding-step : length out' ≡ length out → Feeding k of start held text s₀ out₀ first' has' s' out' (at + read) to' why'
+      feeding-step same = record {
+        few = went .0;
+        within = inside;
+        room = omega (arith, f .same, bounds .1 (omega (arith, f .room, f .same)));
+        same = same ∙ f .same;
+        feeds = λ a y. feeds-then k of a start has first has' first' text (drop at text) (drop (at + read) text) s s' out₀ out out' 0 to to' (f .feeds a y) (λ b z. subst₂ (λ (u v : List ℕ). Feeds k of b first u has' s' first' v out to out' to') (rest-is text at) (ap (drop read) (rest-is text at) ∙ drop-drop read at text) (fed b z));
+        nothing = λ e. by-lt why' 2 (λ l. went .2 l .1 ∙ f .nothing (omega (arith, e))) (λ l. absurd (omega (arith, e, went .1 l)));
+        ended = λ e. let q : at ≡ at + read = omega (arith, went .2 (omega (arith, e)) .0) in subst Unended (rest-is text at ∙ ap (λ (j : ℕ). drop j text) q) (stopped .0 e);
+        full = λ e. omega (arith, stopped .1 e, f .same, went .2 (omega (arith, e)) .1);
+      }
+
+    pub feeding-end : why ≤ 1 → (why ≤ 1) × (why ≡ 0 → Unended (drop at text)) × (why ≡ 1 → longest (k .axes) ≤ length out₀ → 1 ≤ at)
+    feeding-end h = (h, f .ended, λ e l. by-lt at 1 (λ z. absurd (omega (arith, f .full e, f .nothing (omega (arith, z)), l))) (λ z. z))
