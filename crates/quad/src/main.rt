@@ -4,11 +4,14 @@ mod command;
 mod stream;
 
 ghost use Prim.Native.Nat.{_≤_};
-ghost use lib.ListN.{length};
-ghost use Rattle.replies.specs.Programs.{longest};
+ghost use lib.ListN.{length, drop};
+ghost use Rattle.model.specs.Calls.{State, quadtree};
+ghost use Rattle.trees.specs.Pieces.{pieces};
+ghost use Rattle.replies.specs.Programs.{Drains, Keeps, longest};
+ghost use Rattle.replies.specs.Runs.{Unended};
+ghost use Rattle.quad.specs.Commands.{says};
 use record::lines::keep;
 use replies::finish;
-use stream::Step;
 use stream::feed;
 
 // Where the program is: how many bytes are carried at the front of the text, whether the very start is still ahead, whether a tree is held, and whether
@@ -18,6 +21,13 @@ struct Place {
     start: bool,
     held: bool,
     more: bool,
+}
+
+// What was read of a text, whether the very start is still ahead, and whether a tree is held.
+struct Drained {
+    read: usize,
+    start: bool,
+    held: bool,
 }
 
 // Answers the lines of the text and writes the answers, till no line feed is left.
@@ -30,9 +40,11 @@ fn drain(
     links: &mut [u8],
     points: &mut [u8],
     out: &mut [u8],
-) -> Step
+) -> Drained
     requires { ⌜ longest 2 ≤ length (now out) ⌝ }
-    ensures { λ r. ⌜ r .read ≤ length (now (text .entry)) ⌝ }
+    ensures { λ r. ⌜ ((a : State) → Keeps quadtree held (pieces (now (head .entry)) (now (nodes .entry)) (now (links .entry)) (now (points .entry))) a → Drains quadtree says a start (now (text .entry)) (r .held) (pieces (now (head .exit)) (now (nodes .exit)) (now (links .exit)) (now (points .exit))) (r .start) (drop (r .read) (now (text .entry)))) ⌝ }
+    ensures within { λ r. ⌜ r .read ≤ length (now (text .entry)) ⌝ }
+    ensures ended { λ r. ⌜ Unended (drop (r .read) (now (text .entry))) ⌝ }
 {
     let mut at = 0;
     let mut first = start;
@@ -47,12 +59,10 @@ fn drain(
         has = s.held;
         why = s.why;
     }
-    Step {
+    Drained {
         read: at,
-        to: 0,
         start: first,
         held: has,
-        why,
     }
 }
 

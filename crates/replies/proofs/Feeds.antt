@@ -17,7 +17,7 @@ use Rattle.record.specs.Numbers.{decimal}
 use Rattle.record.proofs.Parts.{by-lt, rest-is}
 use Rattle.record.proofs.Streams.{records-line}
 use Rattle.replies.specs.Lines.{answer, crlf, lines}
-use Rattle.replies.specs.Programs.{Answers, Feeds, Keeps, Wrote, longest}
+use Rattle.replies.specs.Programs.{Answers, Drains, Feeds, Keeps, Wrote, longest}
 use Rattle.replies.specs.Runs.{Unended}
 use Rattle.replies.proofs.Runs.{fed-none, fed-one, fed-then}
 use Rattle.replies.proofs.Written.{then}
@@ -83,6 +83,10 @@ finished-none start text n out h e k a =
     subst (λ (l : List ℕ). Wrote out 0 (lines k a (unended l)) out 0) (sym u) (refl, refl)
 
 -- ---- lines one after the other
+-- what is read of a rest lies inside the text
+pub inside : (text : List ℕ) (at read : ℕ) → at ≤ length text → read ≤ length (take (length text - at) (drop at text)) → at + read ≤ length text
+inside text at read h l = omega (arith, h, l, length-drop at text, ap (λ (u : List ℕ). length u) (rest-is text at))
+
 -- where the code is: at a place of the text, with so much written, after a line (2) or stopped, for want of a line feed (0) or of room (1)
 pub record Feeding (k : Kind) (of : List ℕ → Option Call) (start held : Bool) (text : List ℕ) (s₀ : Pieces) (out₀ : List ℕ) (first has : Bool) (s : Pieces) (out : List ℕ) (at to why : ℕ) : Type 0 where
   pub few : why ≤ 2
@@ -113,17 +117,14 @@ module _ (k : Kind) (of : List ℕ → Option Call) (start held : Bool) (text : 
         (bounds : (read ≤ length (take (length text - at) (drop at text))) × (to ≤ length out → to' ≤ length out))
         (went : (why' ≤ 2) × (2 ≤ why' → 1 ≤ read) × (why' < 2 → (read ≡ 0) × (to' ≡ to)))
         (stopped : (why' ≡ 0 → Unended (take (length text - at) (drop at text))) × (why' ≡ 1 → length out < to + longest (k .axes))) where
-      inside : at + read ≤ length text
-      inside = omega (arith, f .within, bounds .0, length-drop at text, ap (λ (l : List ℕ). length l) (rest-is text at))
-
       -- the code ends: fewer bytes are left, or it has stopped
       pub feeding-less : 1 < why → 2 * (length text - (at + read)) + why' < 2 * (length text - at) + why
-      feeding-less h = by-lt why' 2 (λ l. omega (arith, went .2 l .0, h)) (λ l. omega (arith, went .1 l, went .0, inside, h))
+      feeding-less h = by-lt why' 2 (λ l. omega (arith, went .2 l .0, h)) (λ l. omega (arith, went .1 l, went .0, inside text at read (f .within) (bounds .0), h))
 
       pub feeding-step : length out' ≡ length out → Feeding k of start held text s₀ out₀ first' has' s' out' (at + read) to' why'
       feeding-step same = record {
         few = went .0;
-        within = inside;
+        within = inside text at read (f .within) (bounds .0);
         room = omega (arith, f .same, bounds .1 (omega (arith, f .room, f .same)));
         same = same ∙ f .same;
         feeds = λ a y. feeds-then k of a start has first has' first' text (drop at text) (drop (at + read) text) s s' out₀ out out' 0 to to' (f .feeds a y) (λ b z. subst₂ (λ (u v : List ℕ). Feeds k of b first u has' s' first' v out to out' to') (rest-is text at) (ap (drop read) (rest-is text at) ∙ drop-drop read at text) (fed b z));
@@ -134,3 +135,35 @@ module _ (k : Kind) (of : List ℕ → Option Call) (start held : Bool) (text : 
 
     pub feeding-end : why ≤ 1 → (why ≤ 1) × (why ≡ 0 → Unended (drop at text)) × (why ≡ 1 → longest (k .axes) ≤ length out₀ → 1 ≤ at)
     feeding-end h = (h, f .ended, λ e l. by-lt at 1 (λ z. absurd (omega (arith, f .full e, f .nothing (omega (arith, z)), l))) (λ z. z))
+
+-- ---- lines till no line feed is left, with what is printed written out in between
+pub record Draining (k : Kind) (of : List ℕ → Option Call) (start held : Bool) (text : List ℕ) (s₀ : Pieces) (first has : Bool) (s : Pieces) (at why : ℕ) : Type 0 where
+  pub few : why ≤ 1
+  pub within : at ≤ length text
+  pub drains : (a : State) → Keeps k held s₀ a → Drains k of a start text has s first (drop at text)
+  pub ended : why ≡ 0 → Unended (drop at text)
+
+module _ (k : Kind) (of : List ℕ → Option Call) (start held : Bool) (text : List ℕ) (s₀ : Pieces) where
+  pub draining-start : Draining k of start held text s₀ start held s₀ 0 1
+  draining-start = record { few = omega arith; within = omega arith; drains = λ a y. record { state = a; printed = []; fed = fed-none k of a start text; keeps = y }; ended = λ e. absurd (omega (arith, e)) }
+
+  module _ (first has : Bool) (s : Pieces) (at why : ℕ) (f : Draining k of start held text s₀ first has s at why) (first' has' : Bool) (s' : Pieces) (out out' : List ℕ) (read to why' : ℕ)
+      (fed : (a : State) → Keeps k has s a → Feeds k of a first (take (length text - at) (drop at text)) has' s' first' (drop read (take (length text - at) (drop at text))) out 0 out' to)
+      (bounds : (read ≤ length (take (length text - at) (drop at text))) × (to ≤ length out))
+      (stopped : (why' ≤ 1) × (why' ≡ 0 → Unended (drop read (take (length text - at) (drop at text)))) × (why' ≡ 1 → longest (k .axes) ≤ length out → 1 ≤ read)) where
+    left : drop read (take (length text - at) (drop at text)) ≡ drop (at + read) text
+    left = ap (drop read) (rest-is text at) ∙ drop-drop read at text
+
+    pub draining-less : longest (k .axes) ≤ length out → 0 < why → 2 * (length text - (at + read)) + why' < 2 * (length text - at) + why
+    draining-less l h = by-lt why' 1 (λ z. omega (arith, h, inside text at read (f .within) (bounds .0))) (λ z. let e : why' ≡ 1 = omega (arith, z, stopped .0) in omega (arith, stopped .2 e l, h, e, inside text at read (f .within) (bounds .0)))
+
+    pub draining-step : Draining k of start held text s₀ first' has' s' (at + read) why'
+    draining-step = record {
+      few = stopped .0;
+      within = inside text at read (f .within) (bounds .0);
+      drains = λ a y.
+        let d = f .drains a y in
+        let g = subst₂ (λ (u v : List ℕ). Feeds k of (d .state) first u has' s' first' v out 0 out' to) (rest-is text at) left (fed (d .state) (d .keeps)) in
+        record { state = g .state; printed = d .printed ++ g .printed; fed = fed-then k of (d .fed) (g .fed); keeps = g .keeps };
+      ended = λ e. subst Unended left (stopped .1 e);
+    }
