@@ -4,11 +4,11 @@ mod command;
 mod stream;
 
 ghost use Prim.Native.Nat.{_≤_};
-ghost use lib.ListN.{length, drop};
+ghost use lib.ListN.{length, drop, take};
 ghost use Rattle.model.specs.Calls.{State, quadtree};
 ghost use Rattle.trees.specs.Pieces.{pieces};
 ghost use Rattle.replies.specs.Programs.{Drains, Keeps, longest};
-ghost use Rattle.replies.specs.Runs.{Unended};
+ghost use Rattle.replies.specs.Runs.{Digests, Unended};
 ghost use Rattle.quad.specs.Commands.{says};
 use record::lines::keep;
 use replies::finish;
@@ -66,7 +66,33 @@ fn drain(
     }
 }
 
-// Reads behind what is carried, answers the lines, and carries the rest. At the end of the input the rest is answered.
+// Answers the lines of the first n bytes of the text, and carries the rest of them.
+fn digest(
+    text: &mut [u8],
+    n: usize,
+    start: bool,
+    held: bool,
+    head: &mut [u8],
+    nodes: &mut [u8],
+    links: &mut [u8],
+    points: &mut [u8],
+    out: &mut [u8],
+) -> Place
+    requires { ⌜ (n ≤ length (now text)) × (longest 2 ≤ length (now out)) ⌝ }
+    ensures { λ r. ⌜ ((a : State) → Keeps quadtree held (pieces (now (head .entry)) (now (nodes .entry)) (now (links .entry)) (now (points .entry))) a → Digests quadtree says a start (take n (now (text .entry))) (r .held) (pieces (now (head .exit)) (now (nodes .exit)) (now (links .exit)) (now (points .exit))) (r .start) (take (r .carried) (now (text .exit)))) ⌝ }
+    ensures unended { λ r. ⌜ (r .carried ≤ 133) × Unended (take (r .carried) (now (text .exit))) ⌝ }
+{
+    let s = drain(&text[0..n], start, held, head, nodes, links, points, out);
+    let m = keep(text, s.read, n);
+    Place {
+        carried: m,
+        start: s.start,
+        held: s.held,
+        more: true,
+    }
+}
+
+// Reads behind what is carried. At the end of the input what is carried is answered.
 fn turn(
     place: Place,
     head: &mut [u8],
@@ -92,8 +118,9 @@ fn turn(
             more: false,
         };
     }
-    let s = drain(
-        &text[0..total],
+    digest(
+        text,
+        total,
         place.start,
         place.held,
         head,
@@ -101,14 +128,7 @@ fn turn(
         links,
         points,
         out,
-    );
-    let m = keep(text, s.read, total);
-    Place {
-        carried: m,
-        start: s.start,
-        held: s.held,
-        more: true,
-    }
+    )
 }
 
 fn run(

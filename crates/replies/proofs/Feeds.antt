@@ -1,5 +1,5 @@
 -- A program's code over its input: lines one after the other, and the end. Over any kind of tree and any meaning `of` of one record.
-use Prim.Native.Nat.{ℕ, _+_, _-_, _*_, _≤_, _<_}
+use Prim.Native.Nat.{ℕ, zero, suc, _+_, _-_, _*_, _≤_, _<_}
 use mathlib.Core.Path.{_≡_, refl, sym, ap, _∙_, subst, subst₂}
 use mathlib.Core.Bool.{Bool, false, true}
 use mathlib.Core.List.{List, [], _∷_, _++_, append-nil}
@@ -7,18 +7,19 @@ use mathlib.Core.Option.{Option, none}
 use native.Mathlib.Nat.{add-zero, sub-zero}
 use native.Mathlib.Omega.{arith}
 use lib.Dec.{leb}
-use lib.ListN.{length, getD, take, drop, length-drop, drop-of-length-le}
-use lib.Seq.{drop-drop}
+use lib.ListN.{length, getD, take, drop, length-drop, length-take, drop-of-length-le}
+use lib.Seq.{drop-drop, getD-take, sets, take-nil}
 use borrow.Author.Tests.{le-leb, leb-false, leb-true, lt-leb}
 use Rattle.model.specs.Calls.{Call, Kind, State, number}
 use Rattle.trees.specs.Pieces.{Pieces}
 use Rattle.record.specs.Input.{begun, ended, records, unended}
 use Rattle.record.specs.Numbers.{decimal}
+use Rattle.record.proofs.Kept.{kept-front}
 use Rattle.record.proofs.Parts.{by-lt, rest-is}
 use Rattle.record.proofs.Streams.{records-line}
 use Rattle.replies.specs.Lines.{answer, crlf, lines}
-use Rattle.replies.specs.Programs.{Answers, Drains, Feeds, Keeps, Wrote, longest}
-use Rattle.replies.specs.Runs.{Unended}
+use Rattle.replies.specs.Programs.{Answers, Drains, Fed, Feeds, Keeps, Wrote, longest}
+use Rattle.replies.specs.Runs.{Digests, Run, Unended, clip, fed}
 use Rattle.replies.proofs.Runs.{fed-none, fed-one, fed-then}
 use Rattle.replies.proofs.Written.{then}
 
@@ -162,8 +163,48 @@ module _ (k : Kind) (of : List ℕ → Option Call) (start held : Bool) (text : 
       few = stopped .0;
       within = inside text at read (f .within) (bounds .0);
       drains = λ a y.
-        let d = f .drains a y in
-        let g = subst₂ (λ (u v : List ℕ). Feeds k of (d .state) first u has' s' first' v out 0 out' to) (rest-is text at) left (fed (d .state) (d .keeps)) in
-        record { state = g .state; printed = d .printed ++ g .printed; fed = fed-then k of (d .fed) (g .fed); keeps = g .keeps };
+          let d = f .drains a y in
+          let g = subst₂ (λ (u v : List ℕ). Feeds k of (d .state) first u has' s' first' v out 0 out' to) (rest-is text at) left (fed (d .state) (d .keeps)) in
+          record { state = g .state; printed = d .printed ++ g .printed; fed = fed-then k of (d .fed) (g .fed); keeps = g .keeps };
       ended = λ e. subst Unended left (stopped .1 e);
+    }
+
+-- ---- what is carried
+drop-take : (r n : ℕ) (l : List ℕ) → drop r (take n l) ≡ take (n - r) (drop r l)
+drop-take zero n l = ap (λ (j : ℕ). take j l) (sym (sub-zero n))
+drop-take (suc r) zero l = ap (λ (j : ℕ). take j (drop (suc r) l)) {x = 0} {y = 0 - suc r} (omega arith)
+drop-take (suc r) (suc n) [] = sym (take-nil (suc n - suc r))
+drop-take (suc r) (suc n) (x ∷ l) = drop-take r n l ∙ ap (λ (j : ℕ). take j (drop r l)) {x = n - r} {y = suc n - suc r} (omega arith)
+
+unended-take : (n : ℕ) (s : List ℕ) → Unended s → Unended (take n s)
+unended-take n s f i h e = f i (omega (arith, h, length-take n s)) (sym (getD-take n s i 0 (omega (arith, h, length-take n s))) ∙ e)
+
+-- the rest of the first n bytes, cut to 133, at the front of the text
+module _ (text : List ℕ) (n read : ℕ) (text' : List ℕ) (m : ℕ) (moved : text' ≡ sets text 0 (take 133 (take (n - read) (drop read text)))) (many : m ≡ length (take 133 (take (n - read) (drop read text)))) where
+  kept : List ℕ
+  kept = take 133 (take (n - read) (drop read text))
+
+  short : length kept ≤ length text
+  unfolding kept
+  short = omega (arith, length-take 133 (take (n - read) (drop read text)), length-take (n - read) (drop read text), length-drop read text)
+
+  carried-is : take m text' ≡ take 133 (drop read (take (n - 0) text))
+  unfolding kept
+  carried-is =
+      ap (take m) moved ∙ ap (λ (j : ℕ). take j (sets text 0 kept)) many ∙ kept-front text kept short
+      ∙ ap (take 133) (sym (drop-take read n text) ∙ ap (λ (j : ℕ). drop read (take j text)) (sym (sub-zero n)))
+
+  pub carried-few : m ≤ 133
+  carried-few = omega (arith, many, length-take 133 (take (n - read) (drop read text)))
+
+  module _ (ended : Unended (drop read (take (n - 0) text))) where
+    pub carried-unended : Unended (take m text')
+    carried-unended = subst Unended (sym carried-is) (unended-take 133 (drop read (take (n - 0) text)) ended)
+
+    pub digests : (k : Kind) (of : List ℕ → Option Call) (a : State) (start held' start' : Bool) (s' : Pieces) → Drains k of a start (take (n - 0) text) held' s' start' (drop read (take (n - 0) text)) → Digests k of a start (take n text) held' s' start' (take m text')
+    digests k of a start held' start' s' d = record {
+      state = d .state;
+      printed = d .printed;
+      goes-on = λ {chunks} {out} r. fed (subst (λ (j : ℕ). Fed k of a start (take j text) (d .state) start' (drop read (take (n - 0) text)) (d .printed)) (sub-zero n) (d .fed)) (clip ended (subst (λ (l : List ℕ). Run k of (d .state) start' l chunks out) carried-is r));
+      keeps = d .keeps;
     }
