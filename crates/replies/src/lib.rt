@@ -2,7 +2,7 @@
 ghost use mathlib.Core.Path.{_≡_};
 ghost use mathlib.Core.List.{[], _∷_, _++_};
 ghost use Prim.Native.Nat.{_+_, _*_, _<_, _≤_};
-ghost use lib.ListN.{length};
+ghost use lib.ListN.{length, take, drop};
 ghost use Rattle.trees.specs.Pieces.{roomFor};
 ghost use Rattle.record.specs.Numbers as Numbers;
 ghost use Rattle.record.specs.Numbers.{spelt, decimal};
@@ -17,8 +17,7 @@ fn glyph(d: u8) -> u8
     requires { ⌜ d < 16 ⌝ }
     ensures { λ r. ⌜ r ≡ Numbers.glyph d ⌝ }
 {
-    let letter = (d > 9) as u8;
-    48 + d + 7 * letter
+    48 + d + 7 * ((d + 6) / 16)
 }
 
 fn put_byte(out: &mut [u8], at: usize, b: u8) -> usize
@@ -109,6 +108,24 @@ fn put_whole(out: &mut [u8], at: usize, n: u32) -> usize
     put_decimal(out, e, n)
 }
 
+// The bytes of float number i. They are read before anything is written, so that the digits of all of them are made at once.
+fn eight(coords: &[u8], i: usize) -> [u8; 8]
+    requires { ⌜ 8 * i + 8 ≤ length (now coords) ⌝ }
+    ensures { λ r. ⌜ r ≡ take 8 (drop (8 * i) (now (coords .entry))) ⌝ }
+{
+    let k = 8 * i;
+    [
+        coords[k],
+        coords[k + 1],
+        coords[k + 2],
+        coords[k + 3],
+        coords[k + 4],
+        coords[k + 5],
+        coords[k + 6],
+        coords[k + 7],
+    ]
+}
+
 // Writes a comma and the 16 hex digits of float number i: two digits for each byte, the last byte first.
 fn put_hex(out: &mut [u8], at: usize, coords: &[u8], i: usize) -> usize
     requires { ⌜ at + 17 ≤ length (now out) ⌝ }
@@ -116,12 +133,12 @@ fn put_hex(out: &mut [u8], at: usize, coords: &[u8], i: usize) -> usize
     ensures { λ r. ⌜ Wrote (now (out .entry)) at (field (hexAt (now (coords .entry)) i)) (now (out .exit)) r ⌝ }
     ensures end { λ r. ⌜ r ≡ at + 17 ⌝ }
 {
-    let from = 8 * i;
+    let s = eight(coords, i);
     let mut w = put_byte(out, at, b',');
     let mut k = 8;
     while k > 0 {
         k -= 1;
-        let b = coords[from + k];
+        let b = s[k];
         out[w] = glyph(b / 16);
         out[w + 1] = glyph(b % 16);
         w += 2;
