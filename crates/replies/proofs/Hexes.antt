@@ -5,7 +5,7 @@ use Prim.Native.Nat.{ℕ, zero, suc, _+_, _-_, _*_, _/_, _%_, _≤_, _<_}
 use native.Mathlib.Nat.{add-zero}
 use native.Mathlib.Numerals.{add-one}
 use native.Mathlib.Omega.{arith}
-use lib.ListN.{length, getD, set, take, drop, length-take, length-drop, length-set, drop-of-length-le}
+use lib.ListN.{length, getD, set, take, drop, length-set, drop-of-length-le}
 use lib.Seq.{drop-cons, getD-take, getD-drop}
 use Rattle.record.specs.Numbers.{glyph, spelt}
 use Rattle.trees.specs.Pieces.{bytes}
@@ -53,9 +53,6 @@ eight-are s k h =
     (byte-then s _ (k + 7) (k + 8) 0 (omega arith) (omega arith) refl)))))))
 
 module _ (s cs : List ℕ) (i : ℕ) (e : s ≡ take 8 (drop (8 * i) cs)) where
-  pub eight-long : 8 * i + 8 ≤ length cs → length s ≡ 8
-  eight-long h = omega (arith, ap length e, length-take 8 (drop (8 * i) cs), length-drop (8 * i) cs)
-
   pub eight-small : (k : ℕ) → ((j : ℕ) → getD cs j 0 < 256) → k < 8 → getD s k 0 < 256
   eight-small k h l = omega (arith, ap (λ (t : List ℕ). getD t k 0) e, getD-take 8 (drop (8 * i) cs) k 0 l, getD-drop (8 * i) cs k 0, h (8 * i + k))
 

@@ -2,11 +2,14 @@
 use Prim.Native.Nat.{ℕ, zero, suc, _+_, _-_, _*_, _/_, _%_, _≤_, _<_}
 use mathlib.Core.Path.{_≡_, refl, sym, ap, _∙_, subst}
 use mathlib.Core.Logic.{_≢_}
+use mathlib.Core.Bool.{Bool, true, false}
 use mathlib.Core.List.{List, [], _∷_, _++_, append-assoc, append-nil}
 use native.Mathlib.Nat.{add-zero}
 use native.Mathlib.Omega.{arith}
 use lib.ListN.{length, set, length-append}
 use lib.Seq.{sets, set-comm}
+use lib.Dec.{ltb}
+use mir.Val.{boolByte}
 use borrow.Author.Tests.{lt-ltb, le-ltb}
 use Rattle.record.specs.Numbers.{glyph, spelt, places, decimal}
 use Rattle.pool.proofs.Lists.{by-lt}
@@ -22,10 +25,14 @@ then o₀ o₁ o₂ xs ys at r₁ r₂ f g = (
 )
 
 -- ---- digits
+pub letter-small : (t : Bool) → boolByte t ≤ 1
+letter-small true = omega arith
+letter-small false = omega arith
+
 -- letters stand seven places after the digits
-pub glyph-is : (d : ℕ) → d < 16 → 48 + d + 7 * ((d + 6) / 16) ≡ glyph d
+pub glyph-is : (d : ℕ) → 48 + d + 7 * boolByte (ltb 9 d) ≡ glyph d
 unfolding glyph
-glyph-is d l = by-lt d 10 (λ h. simp (lt-ltb d 10 h) (omega arith)) (λ h. simp (le-ltb d 10 h) (omega arith))
+glyph-is d = by-lt d 10 (λ h. simp (lt-ltb d 10 h, le-ltb 9 d (omega arith)) (omega arith)) (λ h. simp (le-ltb d 10 h, lt-ltb 9 d (omega arith)) (omega arith))
 
 pub spelt-length : (base k n : ℕ) → length (spelt base k n) ≡ k
 unfolding spelt

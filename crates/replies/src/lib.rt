@@ -12,12 +12,13 @@ ghost use Rattle.replies.specs.Programs.{Wrote};
 use answers::room;
 use words::get;
 
-// The character of a digit: arithmetic, since digits and letters alternate at random.
+// The character of a digit.
 fn glyph(d: u8) -> u8
     requires { ⌜ d < 16 ⌝ }
     ensures { λ r. ⌜ r ≡ Numbers.glyph d ⌝ }
 {
-    48 + d + 7 * ((d + 6) / 16)
+    let letter = (d > 9) as u8;
+    48 + d + 7 * letter
 }
 
 fn put_byte(out: &mut [u8], at: usize, b: u8) -> usize
@@ -108,32 +109,25 @@ fn put_whole(out: &mut [u8], at: usize, n: u32) -> usize
     put_decimal(out, e, n)
 }
 
-// The bytes of float number i. They are read before anything is written, so that the digits of all of them are made at once.
-fn eight(coords: &[u8], i: usize) -> [u8; 8]
-    requires { ⌜ 8 * i + 8 ≤ length (now coords) ⌝ }
-    ensures { λ r. ⌜ r ≡ take 8 (drop (8 * i) (now (coords .entry))) ⌝ }
-{
-    let k = 8 * i;
-    [
-        coords[k],
-        coords[k + 1],
-        coords[k + 2],
-        coords[k + 3],
-        coords[k + 4],
-        coords[k + 5],
-        coords[k + 6],
-        coords[k + 7],
-    ]
-}
-
-// Writes a comma and the 16 hex digits of float number i: two digits for each byte, the last byte first.
+// Writes a comma and the 16 hex digits of float number i: two digits for each byte, the last byte first. The bytes are read before the first digit is
+// written: only then does the compiler make the digits of all of them at once.
 fn put_hex(out: &mut [u8], at: usize, coords: &[u8], i: usize) -> usize
     requires { ⌜ at + 17 ≤ length (now out) ⌝ }
     requires lent { ⌜ 8 * i + 8 ≤ length (now coords) ⌝ }
     ensures { λ r. ⌜ Wrote (now (out .entry)) at (field (hexAt (now (coords .entry)) i)) (now (out .exit)) r ⌝ }
     ensures end { λ r. ⌜ r ≡ at + 17 ⌝ }
 {
-    let s = eight(coords, i);
+    let j = 8 * i;
+    let s = [
+        coords[j],
+        coords[j + 1],
+        coords[j + 2],
+        coords[j + 3],
+        coords[j + 4],
+        coords[j + 5],
+        coords[j + 6],
+        coords[j + 7],
+    ];
     let mut w = put_byte(out, at, b',');
     let mut k = 8;
     while k > 0 {
