@@ -8,18 +8,18 @@ use native.Mathlib.Nat.{add-zero, sub-zero}
 use native.Mathlib.Omega.{arith}
 use lib.Dec.{leb}
 use lib.ListN.{length, getD, take, drop, length-drop, length-take, drop-of-length-le}
-use lib.Seq.{drop-drop, getD-take, sets, take-nil}
+use lib.Seq.{drop-drop, sets, take-nil}
 use borrow.Author.Tests.{le-leb, leb-false, leb-true, lt-leb}
 use Rattle.model.specs.Calls.{Call, Kind, State, number}
 use Rattle.trees.specs.Pieces.{Pieces}
-use Rattle.record.specs.Input.{begun, ended, records, unended}
+use Rattle.record.specs.Input.{begun, ended, records, unended, Unended}
 use Rattle.record.specs.Numbers.{decimal}
 use Rattle.record.proofs.Kept.{kept-front}
 use Rattle.record.proofs.Parts.{by-lt, rest-is}
-use Rattle.record.proofs.Streams.{records-line}
+use Rattle.record.proofs.Streams.{records-line, unended-take}
 use Rattle.replies.specs.Lines.{answer, crlf, lines}
 use Rattle.replies.specs.Programs.{Answers, Drains, Fed, Feeds, Keeps, Wrote, longest}
-use Rattle.replies.specs.Runs.{Digests, Run, Unended, clip, fed}
+use Rattle.replies.specs.Runs.{Digests, Run, clip, fed}
 use Rattle.replies.proofs.Runs.{fed-none, fed-one, fed-then}
 use Rattle.replies.proofs.Written.{then}
 
@@ -175,9 +175,6 @@ drop-take zero n l = ap (λ (j : ℕ). take j l) (sym (sub-zero n))
 drop-take (suc r) zero l = ap (λ (j : ℕ). take j (drop (suc r) l)) {x = 0} {y = 0 - suc r} (omega arith)
 drop-take (suc r) (suc n) [] = sym (take-nil (suc n - suc r))
 drop-take (suc r) (suc n) (x ∷ l) = drop-take r n l ∙ ap (λ (j : ℕ). take j (drop r l)) {x = n - r} {y = suc n - suc r} (omega arith)
-
-unended-take : (n : ℕ) (s : List ℕ) → Unended s → Unended (take n s)
-unended-take n s f i h e = f i (omega (arith, h, length-take n s)) (sym (getD-take n s i 0 (omega (arith, h, length-take n s))) ∙ e)
 
 -- the rest of the first n bytes, cut to 133, at the front of the text
 module _ (text : List ℕ) (n read : ℕ) (text' : List ℕ) (m : ℕ) (moved : text' ≡ sets text 0 (take 133 (take (n - read) (drop read text)))) (many : m ≡ length (take 133 (take (n - read) (drop read text)))) where

@@ -1,19 +1,14 @@
 -- What a program does with an input that comes in chunks. Definitions only, for either program: `of` says what one record says.
-use mathlib.Core.Path.{_≡_}
 use mathlib.Core.Bool.{Bool}
 use mathlib.Core.List.{List, [], _∷_, _++_}
 use mathlib.Core.Option.{Option}
-use Prim.Native.Nat.{ℕ, _<_}
-use lib.ListN.{length, getD, take}
+use Prim.Native.Nat.{ℕ}
+use lib.ListN.{take}
 use Rattle.model.specs.Calls.{Kind, State, Call}
 use Rattle.trees.specs.Pieces.{Pieces}
-use Rattle.record.specs.Input.{begun, unended}
+use Rattle.record.specs.Input.{begun, unended, Unended}
 use Rattle.replies.specs.Lines.{lines}
 use Rattle.replies.specs.Programs.{Fed, Keeps}
-
--- no line feed among the bytes
-abbrev pub Unended : List ℕ → Type 0
-Unended s = (i : ℕ) → i < length s → getD s i 0 ≡ 10 → ⊥
 
 -- From a tree, the very start or not, and the bytes that are carried, over the chunks that come: what is printed. A chunk comes behind what is carried; records are answered; of a
 -- line that has not ended 133 bytes are kept, which are the mark, 128 bytes, a carriage return and one more; at the end the rest is answered.

@@ -2,7 +2,7 @@
 ghost use mathlib.Core.Path.{_≡_};
 ghost use mathlib.Core.List.{[], _∷_, _++_};
 ghost use Prim.Native.Nat.{_+_, _*_, _<_, _≤_};
-ghost use lib.ListN.{length};
+ghost use lib.ListN.{length, take, drop};
 ghost use lib.Dec.{leb};
 ghost use Rattle.model.specs.Calls.{Kind, State};
 ghost use Rattle.trees.specs.Pieces.{roomFor};
@@ -16,7 +16,7 @@ use answers::room;
 use record::lines::skipped;
 use words::get;
 
-// The character of a digit: arithmetic, since digits and letters alternate at random.
+// The character of a digit.
 fn glyph(d: u8) -> u8
     requires { ⌜ d < 16 ⌝ }
     ensures { λ r. ⌜ r ≡ Numbers.glyph d ⌝ }
@@ -113,19 +113,30 @@ fn put_whole(out: &mut [u8], at: usize, n: u32) -> usize
     put_decimal(out, e, n)
 }
 
-// Writes a comma and the 16 hex digits of float number i: two digits for each byte, the last byte first.
+// Writes a comma and the 16 hex digits of float number i: two digits for each byte, the last byte first. The bytes are read before the first digit is
+// written: only then does the compiler make the digits of all of them at once.
 fn put_hex(out: &mut [u8], at: usize, coords: &[u8], i: usize) -> usize
     requires { ⌜ at + 17 ≤ length (now out) ⌝ }
     requires lent { ⌜ 8 * i + 8 ≤ length (now coords) ⌝ }
     ensures { λ r. ⌜ Wrote (now (out .entry)) at (field (hexAt (now (coords .entry)) i)) (now (out .exit)) r ⌝ }
     ensures end { λ r. ⌜ r ≡ at + 17 ⌝ }
 {
-    let from = 8 * i;
+    let j = 8 * i;
+    let s = [
+        coords[j],
+        coords[j + 1],
+        coords[j + 2],
+        coords[j + 3],
+        coords[j + 4],
+        coords[j + 5],
+        coords[j + 6],
+        coords[j + 7],
+    ];
     let mut w = put_byte(out, at, b',');
     let mut k = 8;
     while k > 0 {
         k -= 1;
-        let b = coords[from + k];
+        let b = s[k];
         out[w] = glyph(b / 16);
         out[w + 1] = glyph(b % 16);
         w += 2;
