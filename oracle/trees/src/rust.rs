@@ -2,7 +2,7 @@
 //! one, fed the same calls, shows its nodes.
 
 use crate::kind::{Kind, SpaceOf};
-use oracle::calls::{DONE, OUTSIDE};
+use oracle::calls::{DONE, NO_CAPACITY, OUTSIDE};
 use oracle::room::{stored, Limited};
 use oracle::space::Space;
 use ralikudo::generic::{Library, Point, Volume};
@@ -48,11 +48,11 @@ where
         found.into_iter().map(point).collect()
     }
 
-    /// A tree, or nothing where the Rust refuses the capacity. The boundary is acceptable.
-    pub fn new(boundary: &Volume<N>, capacity: u32) -> Option<Self> {
-        let limited = Limited::create(&[boundary.corner, boundary.extent].concat(), capacity).ok()?;
-        let tree = SpaceOf::<N>::tree(limited.boundary(), capacity as usize).ok()?;
-        Some(Rust { tree, limited })
+    /// A tree, or the number with which it is refused.
+    pub fn create(boundary: &Volume<N>, capacity: u32) -> Result<Self, u8> {
+        let limited = Limited::create(&[boundary.corner, boundary.extent].concat(), capacity)?;
+        let tree = SpaceOf::<N>::tree(limited.boundary(), capacity as usize).map_err(|_| NO_CAPACITY)?;
+        Ok(Rust { tree, limited })
     }
 
     pub fn shape(&self) -> &<SpaceOf<N> as Space>::Shape {
