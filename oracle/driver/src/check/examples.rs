@@ -198,6 +198,17 @@ const PLANE: &[(&str, &[Step])] = &[
 
 const SOLID: &[(&str, &[Step])] = &[
     (
+        "worked",
+        &[
+            ("oct 0 0 0 8 8 8 1", "0"),
+            ("insert 4 1 0 7", "0"),
+            ("insert 1 1 0 9", "0"),
+            ("range 4 1 0 3", "0 2 | 1 1 0 9 | 4 1 0 7"),
+            ("delete 4 1 0 8", "2"),
+            ("len", "0 2"),
+        ],
+    ),
+    (
         "route",
         &[
             ("oct 0 0 0 8 8 8 1", "0"),

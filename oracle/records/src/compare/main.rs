@@ -2,12 +2,12 @@
 //! streams, and MILLIONS of records more for each tree, or nothing.
 
 mod feed;
-mod format;
 mod shrink;
 mod streams;
 
 use feed::{How, Program};
 use oracle::check::Report;
+use oracle::edges::Named;
 use oracle::program::answers;
 use oracle::room::Room;
 use oracle::space::{Plane, Solid, Space};
@@ -17,7 +17,7 @@ use std::path::{Path, PathBuf};
 use std::process::ExitCode;
 use std::sync::atomic::{AtomicUsize, Ordering};
 use std::sync::Mutex;
-use streams::{makers, standard, Named};
+use streams::{makers, standard, LONG};
 
 /// Records of each generated stream in every run, and in those of millions.
 const STANDARD: usize = 1500;
@@ -139,7 +139,8 @@ fn standard_jobs<'a, S: Space>(pair: &'a Pair) -> Vec<Job<'a>> {
 /// So many records in all, every sort of generated stream taking its share.
 fn many_jobs<'a, S: Space>(pair: &'a Pair, records: usize) -> Vec<Job<'a>> {
     let makers = makers::<S>();
-    let share = records.div_ceil(makers.len());
+    // There are few long ones, so that the others have to make up the number.
+    let share = records.div_ceil(makers.iter().filter(|maker| maker.name != LONG).count());
     let job = |maker: streams::Maker| -> Job<'a> {
         let name = format!("{} {} by the million", S::WORD, maker.name);
         let work = move || {

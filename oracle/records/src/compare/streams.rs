@@ -1,26 +1,20 @@
 //! The streams that both programs are given: the examples, the edges of the format, and generated ones.
 
-use super::format;
 use oracle::check::example_streams;
+use oracle::edges::{self, Named};
 use oracle::generate::{generate, kinds, Stream};
 use oracle::random::Random;
 use oracle::space::Space;
 
-/// A stream with a name that may be that of a file.
-pub struct Named {
-    pub name: String,
-    pub bytes: Vec<u8>,
-}
-
 /// Records of this kind are up to 140 KB long.
-const LONG: &str = "long";
+pub const LONG: &str = "long";
 
 /// The streams of every run: examples, edges of the format, and so many records of each kind.
 pub fn standard<S: Space>(records: usize) -> Vec<Named> {
     let examples = example_streams::<S>();
     let mut all: Vec<Named> =
         examples.into_iter().map(|(name, bytes)| Named { name: format!("example-{name}"), bytes }).collect();
-    all.extend(format::all::<S>());
+    all.extend(edges::all::<S>());
     let makers = makers::<S>();
     all.extend(makers.iter().map(|maker| maker.make(1, records)));
     all

@@ -1,9 +1,17 @@
 //! The edges of the format, each in a stream of its own.
 
-use super::streams::Named;
-use oracle::calls::Point;
-use oracle::record::{Command, LONGEST, MARK};
-use oracle::space::Space;
+use crate::calls::Point;
+use crate::record::{Command, LONGEST, MARK};
+use crate::space::Space;
+
+/// A stream with a name that may be that of a file.
+pub struct Named {
+    pub name: String,
+    pub bytes: Vec<u8>,
+}
+
+/// Bytes of a stream that goes into a joined one.
+const SMALL: usize = 9000;
 
 /// Every stream of this sort.
 pub fn all<S: Space>() -> Vec<Named> {
@@ -14,6 +22,18 @@ pub fn all<S: Space>() -> Vec<Named> {
     all.extend(fields::<S>());
     all.extend(trees::<S>());
     all
+}
+
+/// Many of them in one stream with the mark before it, whose last record has no line end: those that are small, and about
+/// neither the start nor the end of a stream.
+pub fn joined<S: Space>() -> Vec<u8> {
+    let within = |stream: &Named| {
+        let at_the_start =
+            ["mark-", "no-input", "line-end-"].iter().any(|word| stream.name.starts_with(word));
+        !at_the_start && stream.bytes.ends_with(b"\n") && stream.bytes.len() < SMALL
+    };
+    let streams = all::<S>().into_iter().filter(within).flat_map(|stream| stream.bytes);
+    MARK.iter().copied().chain(streams).chain(*b"len").collect()
 }
 
 fn named(name: &str, parts: &[&[u8]]) -> Named {
