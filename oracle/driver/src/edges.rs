@@ -81,6 +81,10 @@ fn each<S: Space>() -> Vec<String> {
     commands.iter().map(|command| command.write(S::WORD)).collect()
 }
 
+fn word_of(line: &str) -> &str {
+    line.split(',').next().unwrap_or("")
+}
+
 /// The very start: nothing, the mark, and what is nearly the mark.
 fn starts<S: Space>() -> Vec<Named> {
     let tree = &begun::<S>()[..];
@@ -110,7 +114,6 @@ fn ends<S: Space>() -> Vec<Named> {
     let tree = &begun::<S>()[..];
     let crlf = String::from_utf8_lossy(tree).replace('\n', "\r\n").into_bytes();
     let len = b"len\n" as &[u8];
-    let unended = |line: &String| [tree, line.as_bytes()].concat();
     let mut all = vec![
         named("line-ends-lf", &[tree, len, len]),
         named("line-ends-crlf", &[&crlf, b"len\r\nlen\r\n"]),
@@ -132,11 +135,11 @@ fn ends<S: Space>() -> Vec<Named> {
         named("no-line-end-one-byte", &[tree, b","]),
         named("no-line-end-nul", &[tree, b"\0"]),
     ];
-    all.extend(each::<S>().iter().enumerate().map(|(i, line)| Named {
-        name: format!("no-line-end-{}", line.split(',').next().unwrap_or(""))
-            + if i > 7 { "-again" } else { "" },
-        bytes: unended(line),
-    }));
+    all.extend(
+        each::<S>()
+            .iter()
+            .map(|line| named(&format!("no-line-end-{}", word_of(line)), &[tree, line.as_bytes()])),
+    );
     all
 }
 
@@ -226,7 +229,7 @@ fn bytes<S: Space>() -> Vec<Named> {
     let lines = each::<S>().iter().flat_map(quoted).collect::<Vec<_>>().join("\n");
     all.push(named("quoted-fields", &[head.as_bytes(), lines.as_bytes(), b"\nlen\n"]));
     for line in each::<S>() {
-        let word = line.split(',').next().unwrap_or("").to_string();
+        let word = word_of(&line);
         all.push(spoilt::<S>(&format!("every-byte-in-{word}"), line.as_bytes(), |line, at| {
             (0..=255).map(|byte| [&line[..at], &[byte], &line[at + 1..]].concat()).collect()
         }));
