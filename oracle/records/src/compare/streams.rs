@@ -4,17 +4,22 @@ use oracle::check::example_streams;
 use oracle::edges::{self, Named};
 use oracle::generate::{generate, kinds, Stream};
 use oracle::random::Random;
+use oracle::recorded::PLAN;
 use oracle::space::Space;
 
 /// Records of this kind are up to 140 KB long.
 pub const LONG: &str = "long";
 
-/// The streams of every run: examples, edges of the format, and so many records of each kind.
+/// The streams of every run: examples, edges of the format, those that are recorded, and so many records of each kind.
 pub fn standard<S: Space>(records: usize) -> Vec<Named> {
     let examples = example_streams::<S>();
     let mut all: Vec<Named> =
         examples.into_iter().map(|(name, bytes)| Named { name: format!("example-{name}"), bytes }).collect();
     all.extend(edges::all::<S>());
+    all.extend(PLAN.iter().map(|(kind, seed, records)| {
+        let bytes = generate::<S>(kind, *seed, *records).unwrap_or_default();
+        Named { name: format!("recorded-{kind}"), bytes }
+    }));
     let makers = makers::<S>();
     all.extend(makers.iter().map(|maker| maker.make(1, records)));
     all
