@@ -156,7 +156,12 @@ fn lengths<S: Space>() -> Vec<Named> {
     let sizes = [511, 512, 513, 4095, 4096, 4097, 65_535, 65_536, 65_537, 131_072, 1_000_000];
     let huge: Vec<u8> =
         sizes.iter().flat_map(|many| [&zeros(*many), b"\r\n" as &[u8], len].concat()).collect();
+    let tails: Vec<u8> = (100..180).flat_map(|many| [&long(b"x", many), len].concat()).collect();
+    let longest = create::<S>(u32::MAX).into_bytes();
     let mut streams = vec![
+        named("length-of-the-longest-good-record", &[&longest, b"\r\n", len, &longest, b"\n", len]),
+        named("length-of-the-longest-behind-the-mark", &[MARK, &longest, b"\r\n", len]),
+        named("length-of-the-longest-no-line-end", &[tree, &longest]),
         named("length-128-lf", &[tree, &zeros(LONGEST), b"\n", len]),
         named("length-128-crlf", &[tree, &zeros(LONGEST), b"\r\n", len]),
         named("length-129-lf", &[tree, &zeros(LONGEST + 1), b"\n", len]),
@@ -178,6 +183,7 @@ fn lengths<S: Space>() -> Vec<Named> {
             "long-record-ends-like-a-good-one",
             &[tree, &zeros(200), b",len\n", &zeros(200), b"\rlen\n", len],
         ),
+        named("long-records-end-with-a-word", &[tree, &tails, len]),
         named("long-record-of-good-ones-with-cr", &[tree, &long(b"len\r", 2000), b"\n", len]),
         named("long-record-of-nul", &[tree, &long(b"\0", 100_000), b"\n", len]),
         named("long-record-of-quotes", &[tree, &long(b"\"", 5000), b"\n", len]),

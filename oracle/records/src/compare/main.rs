@@ -24,7 +24,7 @@ const STANDARD: usize = 1500;
 const MANY: usize = 20_000;
 
 /// Streams up to this size come byte by byte too.
-const SMALL: usize = 3000;
+const SMALL: usize = 20_000;
 
 type Outcome = Result<String, String>;
 
