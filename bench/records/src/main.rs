@@ -1,5 +1,5 @@
-//! Our programs against the oracle's on the same files, by turns; and the memory that each takes. The words are the folder of
-//! our programs, a folder for the inputs, a file for the figures as CSV, and quick for a short trial.
+//! Our programs against the oracle's on the same files, by turns; and the memory that each takes. The words are the
+//! folder of our programs, a folder for the inputs, a file for the figures as CSV, and quick for a short trial.
 
 #[path = "../../src/figures.rs"]
 mod figures;
@@ -106,9 +106,10 @@ fn all(words: (&Path, &Path), sizes: &Sizes) -> Result<String, String> {
     );
     println!("The ratio is our time by the Rust's: below 1 ours is faster.");
     println!();
-    println!(
-        "| what | records | MB in | MB out | ours, ms | the Rust, ms | ours, MB/s in | the Rust, MB/s in | ratio | half of the ratios |"
+    print!(
+        "| what | records | MB in | MB out | ours, ms | the Rust, ms | ours, MB/s in | the Rust, MB/s in "
     );
+    println!("| ratio | half of the ratios |");
     println!("|---|---|---|---|---|---|---|---|---|---|");
     lines.iter().for_each(Line::print);
     println!();

@@ -1,5 +1,5 @@
-//! The command program of document 01 over the Rust, as a plain and fast Rust program: it reads and writes by 64 KB, keeps
-//! one record, and takes no memory for a record but what the Rust's searches take. What it costs is what ours is held against.
+//! The command program of document 01 over the Rust, as a plain and fast Rust program: it reads and writes by 64 KB,
+//! keeps one record, and takes no memory for a record but what the Rust's trees take. Our speed is held against it.
 
 mod command;
 mod line;
