@@ -70,7 +70,7 @@ fn of_space<S: Space>() -> Result<Vec<Recording>, String> {
     }
     let examples = example_streams::<S>().into_iter().flat_map(|(_, stream)| stream).collect();
     all.push(recording(format!("{PROGRAMS}{}", S::WORD), examples));
-    let replay = |name: &str| format!("{PROGRAMS}replay_{}_{name}", S::WORD);
+    let replay = |name: &str| format!("{PROGRAMS}{}_{name}", S::WORD);
     for plan in REPLAYED {
         all.push(recording(replay(plan.0), made(plan)?));
     }
@@ -93,10 +93,12 @@ pub fn write(folder: &Path) -> Result<(), String> {
 
 /// Where a recorded file stands. What a program replays is its input, and the answers what it must write.
 fn place(folder: &Path, name: &str, ending: &str) -> PathBuf {
-    let replay = folder.join("../../crates/replay_geometry");
+    let crates = folder.join("../../crates");
     let stream = if ending == "csv" { "stdin" } else { "stdout" };
     match name {
-        "geometry" => replay.join(stream),
+        "geometry" => crates.join("replay_geometry").join(stream),
+        "records/quad" => crates.join("quad").join(stream),
+        "records/oct" => crates.join("oct").join(stream),
         _ if name.starts_with(PROGRAMS) => folder.join(name).join(stream),
         _ => folder.join(format!("{name}.{ending}")),
     }
