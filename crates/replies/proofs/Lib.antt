@@ -7,3 +7,4 @@ pub mod Shapes
 pub mod Runs
 pub mod Answers
 pub mod Feeds
+pub mod Starts

@@ -89,17 +89,14 @@ array-read-t28 c = search needs
 array-read-t31 : tie.Need-array-read-t31
 array-read-t31 c = search needs
 
-enum-told-3 : tie.Need-enum-told-3
-enum-told-3 c = search needs
-
 array-read-t34 : tie.Need-array-read-t34
 array-read-t34 c = search needs
 
 array-read-t37 : tie.Need-array-read-t37
 array-read-t37 c = search needs
 
-enum-told-4 : tie.Need-enum-told-4
-enum-told-4 c = search needs
+enum-told-3 : tie.Need-enum-told-3
+enum-told-3 c = search needs
 
 array-read-t40 : tie.Need-array-read-t40
 array-read-t40 c = search needs
@@ -107,17 +104,14 @@ array-read-t40 c = search needs
 array-read-t43 : tie.Need-array-read-t43
 array-read-t43 c = search needs
 
-enum-told-5 : tie.Need-enum-told-5
-enum-told-5 c = search needs
-
 array-read-t46 : tie.Need-array-read-t46
 array-read-t46 c = search needs
 
+enum-told-4 : tie.Need-enum-told-4
+enum-told-4 c = search needs
+
 array-read-t49 : tie.Need-array-read-t49
 array-read-t49 c = search needs
-
-enum-told-6 : tie.Need-enum-told-6
-enum-told-6 c = search needs
 
 array-read-t52 : tie.Need-array-read-t52
 array-read-t52 c = search needs
@@ -125,11 +119,11 @@ array-read-t52 c = search needs
 array-read-t55 : tie.Need-array-read-t55
 array-read-t55 c = search needs
 
+enum-told-5 : tie.Need-enum-told-5
+enum-told-5 c = search needs
+
 array-read-t58 : tie.Need-array-read-t58
 array-read-t58 c = search needs
-
-enum-told-7 : tie.Need-enum-told-7
-enum-told-7 c = search needs
 
 array-read-t61 : tie.Need-array-read-t61
 array-read-t61 c = search needs
@@ -137,8 +131,8 @@ array-read-t61 c = search needs
 array-read-t64 : tie.Need-array-read-t64
 array-read-t64 c = search needs
 
-enum-told-8 : tie.Need-enum-told-8
-enum-told-8 c = search needs
+enum-told-6 : tie.Need-enum-told-6
+enum-told-6 c = search needs
 
 array-read-t67 : tie.Need-array-read-t67
 array-read-t67 c = search needs
@@ -151,6 +145,39 @@ array-read-t73 c = search needs
 
 array-read-t76 : tie.Need-array-read-t76
 array-read-t76 c = search needs
+
+enum-told-7 : tie.Need-enum-told-7
+enum-told-7 c = search needs
+
+array-read-t79 : tie.Need-array-read-t79
+array-read-t79 c = search needs
+
+array-read-t82 : tie.Need-array-read-t82
+array-read-t82 c = search needs
+
+array-read-t85 : tie.Need-array-read-t85
+array-read-t85 c = search needs
+
+enum-told-8 : tie.Need-enum-told-8
+enum-told-8 c = search needs
+
+array-read-t88 : tie.Need-array-read-t88
+array-read-t88 c = search needs
+
+array-read-t91 : tie.Need-array-read-t91
+array-read-t91 c = search needs
+
+array-read-t94 : tie.Need-array-read-t94
+array-read-t94 c = search needs
+
+array-read-t97 : tie.Need-array-read-t97
+array-read-t97 c = search needs
+
+array-read-t100 : tie.Need-array-read-t100
+array-read-t100 c = search needs
+
+array-read-t103 : tie.Need-array-read-t103
+array-read-t103 c = search needs
 
 enum-told-9 : tie.Need-enum-told-9
 enum-told-9 c = search needs
@@ -224,27 +251,36 @@ parse-spec =
     array-read-t25
     array-read-t28
     array-read-t31
-    enum-told-3
     array-read-t34
     array-read-t37
-    enum-told-4
+    enum-told-3
     array-read-t40
     array-read-t43
-    enum-told-5
     array-read-t46
+    enum-told-4
     array-read-t49
-    enum-told-6
     array-read-t52
     array-read-t55
+    enum-told-5
     array-read-t58
-    enum-told-7
     array-read-t61
     array-read-t64
-    enum-told-8
+    enum-told-6
     array-read-t67
     array-read-t70
     array-read-t73
     array-read-t76
+    enum-told-7
+    array-read-t79
+    array-read-t82
+    array-read-t85
+    enum-told-8
+    array-read-t88
+    array-read-t91
+    array-read-t94
+    array-read-t97
+    array-read-t100
+    array-read-t103
     enum-told-9
     enum-told-10
     enum-told-11
