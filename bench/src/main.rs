@@ -1,8 +1,9 @@
 //! Our library against the Rust: the same inputs, in one process, by turns. Words:
 //!   check   tries whether both sides give the same, and takes no time
-//!   FILE    prints the table, and writes it to FILE as CSV
+//!   FILE    prints the table, and writes it to FILE as CSV; with a TEXT behind it only the lines whose name holds that
 
 mod benchmark;
+mod figures;
 mod knn;
 mod measure;
 mod table;
@@ -18,11 +19,16 @@ fn all() -> Vec<Benchmark> {
 
 fn main() -> ExitCode {
     let words: Vec<String> = std::env::args().skip(1).collect();
-    let [word] = &words[..] else {
-        eprintln!("bench: the words are check, or the name of a file for the figures");
-        return ExitCode::from(2);
+    let (word, only) = match &words[..] {
+        [word] => (word, ""),
+        [word, only] => (word, only.as_str()),
+        _ => {
+            eprintln!("bench: the words are check, or the name of a file for the figures and a text");
+            return ExitCode::from(2);
+        }
     };
-    let all = all();
+    let mut all = all();
+    all.retain(|benchmark| benchmark.to_string().contains(only));
     if let Some(wrong) = all.iter().find(|benchmark| !benchmark.agrees()) {
         println!("FAILED bench: {wrong}: ours gives another answer than the Rust");
         return ExitCode::FAILURE;

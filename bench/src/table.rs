@@ -1,7 +1,7 @@
 //! The figures, to be read and to be plotted.
 
 use crate::benchmark::Benchmark;
-use crate::measure::Figures;
+use crate::figures::Figures;
 
 type Line<'a> = (&'a Benchmark, Figures);
 

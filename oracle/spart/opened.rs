@@ -23,6 +23,12 @@ pub trait Opened: Sized {
     /// How many nodes the tree has, the root counted.
     fn nodes(&self) -> usize;
 
+    /// How many nodes storing a point that is inside would add: the Rust stores it in a copy of one node.
+    fn added(&self, point: &Self::Point) -> usize;
+
+    /// The depth of the undivided node that a point routes to.
+    fn depth_at(&self, point: &Self::Point) -> usize;
+
     /// Shows each node: itself, then its children in the order of their numbers.
     fn look(&self, show: &mut dyn FnMut(Node<Self::Volume, Self::Point>));
 }
@@ -30,6 +36,17 @@ pub trait Opened: Sized {
 /// Written behind the text of a tree's module, where its private functions can be seen.
 macro_rules! open_tree {
     ($tree:ident, $volume:ident, $point:ident) => {
+        impl<T: Clone + PartialEq + std::fmt::Debug> $tree<T> {
+            /// The undivided node that a point routes to.
+            fn leaf(&self, point: &$point<T>) -> &Self {
+                let mut node = self;
+                while let Some(child) = node.children()[node.child_index(point)] {
+                    node = child;
+                }
+                node
+            }
+        }
+
         impl<T: Clone + PartialEq + std::fmt::Debug> crate::opened::Opened for $tree<T> {
             type Volume = $volume;
             type Point = $point<T>;
@@ -48,6 +65,20 @@ macro_rules! open_tree {
             fn nodes(&self) -> usize {
                 let children = self.children().into_iter().flatten();
                 1 + children.map(|child| child.nodes()).sum::<usize>()
+            }
+
+            fn added(&self, point: &$point<T>) -> usize {
+                let leaf = self.leaf(point);
+                if leaf.points.len() < leaf.capacity || leaf.depth >= MAX_DEPTH {
+                    return 0;
+                }
+                let mut grown = leaf.clone();
+                grown.insert_within(point.clone());
+                grown.nodes() - 1
+            }
+
+            fn depth_at(&self, point: &$point<T>) -> usize {
+                self.leaf(point).depth
             }
 
             fn look(&self, show: &mut dyn FnMut(crate::opened::Node<$volume, $point<T>>)) {

@@ -232,8 +232,9 @@ fn stored<E>(insert: Result<bool, E>) -> bool {
 /// What differs from tree to tree.
 #[derive(Clone, Copy)]
 struct Sizes {
-    /// All points find room with these.
-    capacities: [u32; 2],
+    /// The capacities with which all points find room, where they lie anywhere and where they lie in clusters.
+    uniform: &'static [u32],
+    clustered: &'static [u32],
     /// With these an answer has a handful of points where they lie anywhere.
     radius: f64,
     extent: f64,
@@ -246,9 +247,9 @@ where
     Inner: Calls<N> + Sound<N>,
 {
     let mut all = Vec::new();
-    for input in ["uniform", "clustered"] {
+    for (input, capacities) in [("uniform", sizes.uniform), ("clustered", sizes.clustered)] {
         let points = Rc::new(points(input));
-        for capacity in sizes.capacities {
+        for &capacity in capacities {
             all.extend(case::<Inner, S, N>(input, capacity, ", inner", RUNS, &points).all(sizes));
             all.extend(case::<Public, S, N>(input, capacity, ", public", FEW_RUNS, &points).all(sizes));
             all.push(case::<Inner, S, N>(input, capacity, "", RUNS, &points).sound());
@@ -268,8 +269,9 @@ fn case<C, S, const N: usize>(
 }
 
 pub fn all() -> Vec<Benchmark> {
-    let plane = Sizes { capacities: [8, 16], radius: SIDE / 16.0, extent: SIDE / 8.0 };
-    let solid = Sizes { capacities: [16, 32], radius: SIDE / 8.0, extent: SIDE / 4.0 };
+    let both: &[u32] = &[8, 16];
+    let plane = Sizes { uniform: both, clustered: both, radius: SIDE / 16.0, extent: SIDE / 8.0 };
+    let solid = Sizes { uniform: &[8, 16, 32], clustered: &[16, 32], radius: SIDE / 8.0, extent: SIDE / 4.0 };
     let mut all = lines::<oracle::space::Plane, 2>(plane);
     all.extend(lines::<oracle::space::Solid, 3>(solid));
     all

@@ -70,7 +70,7 @@ unfoldable pub floatBytes : List Float → List ℕ
 unfolding flatten bytes
 floatBytes vs = flatten (map (λ x. bytes 8 (toBits binary64 x)) vs)
 
-floatBytes-length : (vs : List Float) → length (floatBytes vs) ≡ 8 * length vs
+pub floatBytes-length : (vs : List Float) → length (floatBytes vs) ≡ 8 * length vs
 unfolding floatBytes flatten bytes
 floatBytes-length [] = refl
 floatBytes-length (v ∷ vs) = omega (arith, floatBytes-length vs)

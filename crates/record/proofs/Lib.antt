@@ -8,3 +8,4 @@ pub mod Reading
 pub mod Quotes
 pub mod Round
 pub mod Examples
+pub mod Commands

@@ -13,7 +13,7 @@ use lib.Dec.{eqb, leb}
 use borrow.Author.Tests.{lt-leb, eq-eqb, ne-eqb}
 use Rattle.model.specs.Calls.{Call}
 use Rattle.record.specs.Text.{grow, split, same}
-use Rattle.record.specs.Input.{strip, ended, unended, parts, mark, unmarked, begun, records}
+use Rattle.record.specs.Input.{strip, ended, unended, parts, mark, unmarked, begun, records, Unended}
 use Rattle.record.proofs.Parts.{by-lt, is-no, rest-is, same-eq, same-refl, split-found, split-some, split-other}
 
 -- ---- where a record stands
@@ -61,6 +61,15 @@ stands start s from n h e l t = (
     got = ap (take n) (sym (rest-is s from)) ∙ t ∙ ap strip (rest-is s from ∙ e)
 
 -- ---- a line that has ended
+
+-- what it says, from where its record stands
+pub ended-long : (of : List ℕ → Option Call) (s : List ℕ) (fits : Bool) → fits ≡ leb (length (strip s)) 128 → fits ≡ false → none ≡ ended of s
+unfolding ended
+ended-long of s fits e f = ap (λ (b : Bool). cond b (of (strip s)) none) (sym f ∙ e)
+
+pub ended-short : (of : List ℕ → Option Call) (s : List ℕ) (fits : Bool) (t : List ℕ) (c : Option Call) → fits ≡ leb (length (strip s)) 128 → fits ≡ true → t ≡ strip s → c ≡ of t → c ≡ ended of s
+unfolding ended
+ended-short of s fits t c e f g h = h ∙ ap of g ∙ ap (λ (b : Bool). cond b (of (strip s)) none) (sym f ∙ e)
 
 parts-cons : (of : List ℕ → Option Call) (p : List ℕ) (ps : List (List ℕ)) → (ps ≡ [] → ⊥) → parts of (p ∷ ps) ≡ ended of p ∷ parts of ps
 unfolding parts
@@ -144,11 +153,7 @@ unfolding glue
 glue-nil [] h = absurd (h refl)
 glue-nil (q ∷ qs) h = refl
 
--- no line feed
-abbrev pub Open : List ℕ → Type 0
-Open s = (k : ℕ) → k < length s → getD s k 0 ≡ 10 → ⊥
-
-split-glue : (p u : List ℕ) → Open p → split 10 (p ++ u) ≡ glue p (split 10 u)
+split-glue : (p u : List ℕ) → Unended p → split 10 (p ++ u) ≡ glue p (split 10 u)
 split-glue [] u f = glue-nil (split 10 u) (split-some 10 u)
 split-glue (b ∷ p) u f =
     split-other 10 b (p ++ u) (f 0 (omega arith)) ∙ ap (grow b) (split-glue p u (λ k h. f (suc k) (suc-le-suc h))) ∙ grow-glue b p (split 10 u)
@@ -184,53 +189,51 @@ parts-over of p [] h = unended-some p (omega arith)
 parts-over of p (q ∷ []) h = unended-some (p ++ q) (omega (arith, length-append p q))
 parts-over of p (q ∷ r ∷ ps) h = ap (λ (c : Option Call). c ∷ parts of (r ∷ ps)) (ended-over of (p ++ q) (omega (arith, length-append p q)))
 
-later-over : (of : List ℕ → Option Call) (p u : List ℕ) → Open p → 130 ≤ length p → records of false (p ++ u) ≡ none ∷ after-first of (split 10 u)
+later-over : (of : List ℕ → Option Call) (p u : List ℕ) → Unended p → 130 ≤ length p → records of false (p ++ u) ≡ none ∷ after-first of (split 10 u)
 unfolding records begun
 later-over of p u f h = ap (parts of) (split-glue p u f) ∙ parts-over of p (split 10 u) h
 
-open-take : (n : ℕ) (s : List ℕ) → n ≤ length s → Open s → Open (take n s)
-open-take n s l f k h q =
-    let e = length-take-le n s l in
-    f k (omega arith) (sym (getD-take n s k 0 (omega arith)) ∙ q)
+pub unended-take : (n : ℕ) (s : List ℕ) → Unended s → Unended (take n s)
+unended-take n s f k h q = f k (omega (arith, h, length-take n s)) (sym (getD-take n s k 0 (omega (arith, h, length-take n s))) ∙ q)
 
-open-drop : (n : ℕ) (s : List ℕ) → Open s → Open (drop n s)
-open-drop n s f k h q = f (n + k) (omega (arith, length-drop n s)) (sym (getD-drop n s k 0) ∙ q)
+unended-drop : (n : ℕ) (s : List ℕ) → Unended s → Unended (drop n s)
+unended-drop n s f k h q = f (n + k) (omega (arith, length-drop n s)) (sym (getD-drop n s k 0) ∙ q)
 
 -- the first line of all, too long
-first-over : (of : List ℕ → Option Call) (s u : List ℕ) (t : Bool) → same (take 3 s) mark ≡ t → Open s → 133 ≤ length s → records of true (s ++ u) ≡ none ∷ after-first of (split 10 u)
+first-over : (of : List ℕ → Option Call) (s u : List ℕ) (t : Bool) → same (take 3 s) mark ≡ t → Unended s → 133 ≤ length s → records of true (s ++ u) ≡ none ∷ after-first of (split 10 u)
 unfolding records begun unmarked
 first-over of s u true e f h =
     simp (take-append-le 3 s u (omega arith), e)
-    (ap (records of false) (drop-append-le 3 s u (omega arith)) ∙ later-over of (drop 3 s) u (open-drop 3 s f) (omega (arith, length-drop 3 s)))
+    (ap (records of false) (drop-append-le 3 s u (omega arith)) ∙ later-over of (drop 3 s) u (unended-drop 3 s f) (omega (arith, length-drop 3 s)))
 first-over of s u false e f h = simp (take-append-le 3 s u (omega arith), e) (later-over of s u f (omega arith))
 
-any-over : (of : List ℕ → Option Call) (start : Bool) (s u : List ℕ) → Open s → 133 ≤ length s → records of start (s ++ u) ≡ none ∷ after-first of (split 10 u)
+any-over : (of : List ℕ → Option Call) (start : Bool) (s u : List ℕ) → Unended s → 133 ≤ length s → records of start (s ++ u) ≡ none ∷ after-first of (split 10 u)
 any-over of true s u f h = first-over of s u (same (take 3 s) mark) refl f h
 any-over of false s u f h = later-over of s u f (omega arith)
 
 -- of the beginning of a line 133 bytes are enough: the mark, 128, a carriage return and one more
-pub records-clipped : (of : List ℕ → Option Call) (start : Bool) (s u : List ℕ) → Open s → records of start (s ++ u) ≡ records of start (take 133 s ++ u)
+pub records-clipped : (of : List ℕ → Option Call) (start : Bool) (s u : List ℕ) → Unended s → records of start (s ++ u) ≡ records of start (take 133 s ++ u)
 records-clipped of start s u f =
     by-lt (length s) 133
     (λ l. ap (λ (t : List ℕ). records of start (t ++ u)) (sym (take-all 133 s (omega arith))))
-    (λ l. any-over of start s u f l ∙ sym (any-over of start (take 133 s) u (open-take 133 s l f) (omega (arith, length-take-le 133 s l))))
+    (λ l. any-over of start s u f l ∙ sym (any-over of start (take 133 s) u (unended-take 133 s f) (omega (arith, length-take-le 133 s l))))
 
 -- ---- the end
 
-open-begun : (start : Bool) (s : List ℕ) → Open s → Open (begun start s)
+unended-begun : (start : Bool) (s : List ℕ) → Unended s → Unended (begun start s)
 unfolding begun unmarked
-open-begun true s f = go (same (take 3 s) mark)
+unended-begun true s f = go (same (take 3 s) mark)
   where
-    go : (t : Bool) → Open (cond t (drop 3 s) s)
-    go true = open-drop 3 s f
+    go : (t : Bool) → Unended (cond t (drop 3 s) s)
+    go true = unended-drop 3 s f
     go false = f
-open-begun false s f = f
+unended-begun false s f = f
 
-one-part : (s : List ℕ) → Open s → split 10 s ≡ s ∷ []
+one-part : (s : List ℕ) → Unended s → split 10 s ≡ s ∷ []
 unfolding glue split
 one-part s f = ap (split 10) (sym (append-nil s)) ∙ split-glue s [] f ∙ ap (λ (t : List ℕ). t ∷ []) (append-nil s)
 
 -- what is left without a line end is one record, or none
-pub records-end : (of : List ℕ → Option Call) (start : Bool) (s : List ℕ) → Open s → records of start s ≡ unended (begun start s)
+pub records-end : (of : List ℕ → Option Call) (start : Bool) (s : List ℕ) → Unended s → records of start s ≡ unended (begun start s)
 unfolding records parts
-records-end of start s f = ap (parts of) (one-part (begun start s) (open-begun start s f))
+records-end of start s f = ap (parts of) (one-part (begun start s) (unended-begun start s f))

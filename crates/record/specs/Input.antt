@@ -1,5 +1,6 @@
 -- The records of an input: document 01, "Records of the command program". Definitions only, for either program: `of` says what one record says.
-use Prim.Native.Nat.{ℕ, _-_}
+use Prim.Native.Nat.{ℕ, _-_, _<_}
+use mathlib.Core.Path.{_≡_}
 use mathlib.Core.Bool.{Bool, true, false, cond}
 use mathlib.Core.List.{List, [], _∷_}
 use mathlib.Core.Option.{Option, none}
@@ -47,3 +48,7 @@ begun false s = s
 unfoldable pub records : (List ℕ → Option Call) → (start : Bool) → List ℕ → List (Option Call)
 unfolding parts begun split
 records of start s = parts of (split 10 (begun start s))
+
+-- no line feed among the bytes: a line that has not ended
+abbrev pub Unended : List ℕ → Type 0
+Unended s = (i : ℕ) → i < length s → getD s i 0 ≡ 10 → ⊥

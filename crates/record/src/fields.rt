@@ -134,7 +134,7 @@ fn last_whole(s: &[u8], due: bool) -> Whole
 }
 
 // Reads the numbers of a word: the floats to the front of `numbers`, and the whole number or 0. What stands after the word is s: nothing, or a comma and the
-// other fields. Where they are not understood, some floats may have been written.
+// other fields. Where they are not understood some floats may have been written, so `numbers` is an array that nobody else sees.
 pub fn numbers_of(s: &[u8], word: Word, axes: u8, numbers: &mut [f64]) -> Whole
     ensures { λ r. ⌜ (floatsAfter axes word ≤ length (now (numbers .entry)) → Reads (numbersOf (floatsAfter axes word) (wholeAfter word) (rest (now (s .entry)))) r (now (numbers .entry)) (now (numbers .exit))) ⌝ }
 {

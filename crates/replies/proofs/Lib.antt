@@ -5,3 +5,6 @@ pub mod Points
 pub mod Told
 pub mod Shapes
 pub mod Runs
+pub mod Answers
+pub mod Feeds
+pub mod Starts

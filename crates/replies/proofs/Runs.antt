@@ -4,12 +4,12 @@ use mathlib.Core.Bool.{Bool, true}
 use mathlib.Core.List.{List, [], _∷_, _++_, append-assoc, append-nil, flatten}
 use mathlib.Core.Option.{Option}
 use Prim.Native.Nat.{ℕ}
-use lib.ListN.{take}
 use Rattle.model.specs.Calls.{Kind, State, Call, broken}
-use Rattle.record.specs.Input.{begun, records, unended}
+use Rattle.record.specs.Input.{records}
+use Rattle.record.proofs.Streams.{records-clipped, records-end}
 use Rattle.replies.specs.Lines.{answer, lines, state}
 use Rattle.replies.specs.Programs.{Fed}
-use Rattle.replies.specs.Runs.{Unended, Run, chunk, fed, clip, end}
+use Rattle.replies.specs.Runs.{Run, chunk, fed, clip, end}
 
 -- ---- lines of many records
 pub lines-append : (k : Kind) (a : State) (xs ys : List (Option Call)) → lines k a (xs ++ ys) ≡ lines k a xs ++ lines k (state k a xs) ys
@@ -46,16 +46,15 @@ module _ (k : Kind) (of : List ℕ → Option Call) where
   }
 
   -- ---- a run
-  module _ (clipped : (start : Bool) (s u : List ℕ) → Unended s → records of start (s ++ u) ≡ records of start (take 133 s ++ u)) (ends : (start : Bool) (s : List ℕ) → Unended s → records of start s ≡ unended (begun start s)) where
-    pub run-prints : {a : State} {start : Bool} {s : List ℕ} {cs : List (List ℕ)} {out : List ℕ} → Run k of a start s cs out → out ≡ lines k a (records of start (s ++ flatten cs))
-    unfolding flatten
-    run-prints {a} {start} {s} {cs} (chunk {c = c} {cs = ds} r) = run-prints r ∙ ap (λ (l : List ℕ). lines k a (records of start l)) (append-assoc s c (flatten ds))
-    run-prints {a} {start} {s} {cs} (fed {b = b} {next = next} {rest = rest} f r) =
-        ap₂ (λ (x y : List ℕ). x ++ y) (f .printed-is) (run-prints r ∙ ap (λ (x : State). lines k x (records of next (rest ++ flatten cs))) (f .state-is))
-        ∙ sym (lines-append k a (f .said) (records of next (rest ++ flatten cs))) ∙ ap (lines k a) (sym (f .same (flatten cs)))
-    run-prints {a} {start} {s} {cs} (clip h r) = run-prints r ∙ ap (lines k a) (sym (clipped start s (flatten cs) h))
-    run-prints {a} {start} {s} (end h) = ap (lines k a) (sym (ends start s h)) ∙ ap (λ (l : List ℕ). lines k a (records of start l)) (sym (append-nil s))
+  pub run-prints : {a : State} {start : Bool} {s : List ℕ} {cs : List (List ℕ)} {out : List ℕ} → Run k of a start s cs out → out ≡ lines k a (records of start (s ++ flatten cs))
+  unfolding flatten
+  run-prints {a} {start} {s} {cs} (chunk {c = c} {cs = ds} r) = run-prints r ∙ ap (λ (l : List ℕ). lines k a (records of start l)) (append-assoc s c (flatten ds))
+  run-prints {a} {start} {s} {cs} (fed {b = b} {next = next} {rest = rest} f r) =
+      ap₂ (λ (x y : List ℕ). x ++ y) (f .printed-is) (run-prints r ∙ ap (λ (x : State). lines k x (records of next (rest ++ flatten cs))) (f .state-is))
+      ∙ sym (lines-append k a (f .said) (records of next (rest ++ flatten cs))) ∙ ap (lines k a) (sym (f .same (flatten cs)))
+  run-prints {a} {start} {s} {cs} (clip h r) = run-prints r ∙ ap (lines k a) (sym (records-clipped of start s (flatten cs) h))
+  run-prints {a} {start} {s} (end h) = ap (lines k a) (sym (records-end of start s h)) ∙ ap (λ (l : List ℕ). lines k a (records of start l)) (sym (append-nil s))
 
-    -- from no tree, at the very start, with nothing carried
-    pub any-cutting : {chunks : List (List ℕ)} {out : List ℕ} → Run k of broken true [] chunks out → out ≡ lines k broken (records of true (flatten chunks))
-    any-cutting r = run-prints r
+  -- from no tree, at the very start, with nothing carried
+  pub any-cutting : {chunks : List (List ℕ)} {out : List ℕ} → Run k of broken true [] chunks out → out ≡ lines k broken (records of true (flatten chunks))
+  any-cutting r = run-prints r

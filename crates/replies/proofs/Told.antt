@@ -17,7 +17,7 @@ use Rattle.model.specs.Trees.{Point}
 use Rattle.record.specs.Numbers.{decimal, hex}
 use Rattle.words.specs.Words.{words, le4}
 use Rattle.words.proofs.Words.{words-at}
-use Rattle.answers.proofs.Writes.{fits-place}
+use Rattle.answers.proofs.Writes.{fits-place, floatBytes, floatBytes-length}
 use Rattle.trees.specs.Pieces.{Hands, bytes, coordinates, payloads, roomFor}
 use Rattle.replies.specs.Lines.{crlf, field, point, points}
 use Rattle.replies.specs.Printed.{hexAt, hexes, nibbles, pointsFrom, ShapedPoint, Shaped, found, Prints}
@@ -26,9 +26,6 @@ use Rattle.replies.proofs.Hexes.{nibbles-bytes}
 use Rattle.replies.proofs.Lines.{refused-is}
 
 -- ---- coordinates
-floatBytes : List Float → List ℕ
-floatBytes vs = flatten (map (λ x. bytes 8 (toBits binary64 x)) vs)
-
 -- the next eight bytes are a float's
 hex-is : (cs rest : List ℕ) (i : ℕ) (x : Float) → drop (8 * i) cs ≡ bytes 8 (toBits binary64 x) ++ rest → hexAt cs i ≡ hex x
 unfolding hex bytes
@@ -44,19 +41,11 @@ hexes-are (v ∷ vs) cs rest i e =
     let f = e ∙ append-assoc (bytes 8 (toBits binary64 v)) (floatBytes vs) rest in
     ap₂ (λ (s t : List ℕ). field s ++ t) (hex-is cs (floatBytes vs ++ rest) i v f) (hexes-are vs cs rest (i + 1) (further cs (bytes 8 (toBits binary64 v)) (floatBytes vs ++ rest) (8 * i) (8 * (i + 1)) f (omega arith)))
 
-floatBytes-length : (vs : List Float) → length (floatBytes vs) ≡ 8 * length vs
-unfolding floatBytes flatten bytes
-floatBytes-length [] = refl
-floatBytes-length (v ∷ vs) = omega (arith, length-append (bytes 8 (toBits binary64 v)) (floatBytes vs), floatBytes-length vs)
-
 -- ---- payloads
-four-make : (v : ℕ) → v < 4294967296 → le4 (v % 256) (v / 256 % 256) (v / 256 / 256 % 256) (v / 256 / 256 / 256 % 256) ≡ v
-four-make v h = omega arith
-
 -- the next four bytes are a payload's
 payload-is : (ms rest : List ℕ) (j v : ℕ) → v < 4294967296 → drop (4 * j) ms ≡ bytes 4 v ++ rest → getD (words ms) j 0 ≡ v
 unfolding bytes
-payload-is ms rest j v h e = words-at ms j there ∙ lined ∙ four-make v h
+payload-is ms rest j v h e = words-at ms j there ∙ lined
   where
     there : j < length ms / 4
     there = omega (arith, length-drop (4 * j) ms, ap length e)
@@ -67,7 +56,7 @@ payload-is ms rest j v h e = words-at ms j there ∙ lined ∙ four-make v h
     first : getD ms (4 * j) 0 ≡ v % 256
     first = ap (λ (i : ℕ). getD ms i 0) {x = 4 * j} {y = 4 * j + 0} (omega arith) ∙ byte 0
 
-    lined : le4 (getD ms (4 * j) 0) (getD ms (4 * j + 1) 0) (getD ms (4 * j + 2) 0) (getD ms (4 * j + 3) 0) ≡ le4 (v % 256) (v / 256 % 256) (v / 256 / 256 % 256) (v / 256 / 256 / 256 % 256)
+    lined : le4 (getD ms (4 * j) 0) (getD ms (4 * j + 1) 0) (getD ms (4 * j + 2) 0) (getD ms (4 * j + 3) 0) ≡ v
     lined = omega (arith, first, byte 1, byte 2, byte 3)
 
 -- ---- points

@@ -1,25 +1,27 @@
 -- What the code of a command program does: bytes written to a lent slice, the tree that its pieces hold, and how far it is in its input. Definitions only.
 use mathlib.Core.Path.{_≡_}
-use mathlib.Core.Bool.{Bool, true, false}
+use mathlib.Core.Bool.{Bool}
 use mathlib.Core.List.{List, [], _∷_, _++_}
 use mathlib.Core.Option.{Option}
-use Prim.Native.Nat.{ℕ, _+_}
+use Prim.Native.Nat.{ℕ, _+_, _*_}
 use lib.ListN.{length}
 use lib.Seq.{sets}
-use Rattle.model.specs.Calls.{Kind, State, misfit, broken, tree, Call}
-use Rattle.trees.specs.Pieces.{Pieces, Fits, Says}
+use Rattle.model.specs.Calls.{Kind, State, Call}
+use Rattle.trees.specs.Pieces.{Pieces, Says}
 use Rattle.record.specs.Input.{records}
-use Rattle.replies.specs.Lines.{answer, lines, state}
+use Rattle.replies.specs.Lines.{answer, held?, lines, state}
 
 -- from the index at on these bytes were written, and r is the index after them; the rest is as before
 abbrev pub Wrote : (before : List ℕ) (at : ℕ) (bytes after : List ℕ) (r : ℕ) → Type 0
 Wrote before at bytes after r = (r ≡ at + length bytes) × (after ≡ sets before at bytes)
 
--- the pieces hold the program's tree; before the first creation there is none, and they only have their lengths
+-- the pieces are in this state, and the program knows whether they hold a tree
 abbrev pub Keeps : Kind → (held : Bool) → Pieces → State → Type 0
-Keeps k held s misfit = ⊥
-Keeps k held s broken = (held ≡ false) × Fits k s
-Keeps k held s (tree a) = (held ≡ true) × Says k s (tree a)
+Keeps k held s a = (held ≡ held? a) × Says k s a
+
+-- the longest line: 0, a count of three digits, and 512 points
+abbrev pub longest : (axes : ℕ) → ℕ
+longest axes = 14 + (17 * axes + 11) * 512
 
 -- a record was answered
 unfoldable pub Answers : Kind → Option Call → (held : Bool) → Pieces → (held' : Bool) → Pieces → (out : List ℕ) (at : ℕ) (out' : List ℕ) (r : ℕ) → Type 0
@@ -32,3 +34,18 @@ pub record Fed (k : Kind) (of : List ℕ → Option Call) (a : State) (start : B
   pub same : (more : List ℕ) → records of start (text ++ more) ≡ said ++ records of start' (rest ++ more)
   pub printed-is : printed ≡ lines k a said
   pub state-is : a' ≡ state k a said
+
+-- Code was fed with a text: what is printed was written from the index at on, and the pieces hold the tree after it.
+pub record Feeds (k : Kind) (of : List ℕ → Option Call) (a : State) (start : Bool) (text : List ℕ) (held' : Bool) (s' : Pieces) (start' : Bool) (rest out : List ℕ) (at : ℕ) (out' : List ℕ) (r : ℕ) : Type 0 where
+  pub state : State
+  pub printed : List ℕ
+  pub fed : Fed k of a start text state start' rest printed
+  pub wrote : Wrote out at printed out' r
+  pub keeps : Keeps k held' s' state
+
+-- Code was fed with a text, and what is printed was handed on piece by piece.
+pub record Drains (k : Kind) (of : List ℕ → Option Call) (a : State) (start : Bool) (text : List ℕ) (held' : Bool) (s' : Pieces) (start' : Bool) (rest : List ℕ) : Type 0 where
+  pub state : State
+  pub printed : List ℕ
+  pub fed : Fed k of a start text state start' rest printed
+  pub keeps : Keeps k held' s' state

@@ -2,17 +2,21 @@
 ghost use mathlib.Core.Path.{_≡_};
 ghost use mathlib.Core.List.{[], _∷_, _++_};
 ghost use Prim.Native.Nat.{_+_, _*_, _<_, _≤_};
-ghost use lib.ListN.{length};
+ghost use lib.ListN.{length, take, drop};
+ghost use lib.Dec.{leb};
+ghost use Rattle.model.specs.Calls.{Kind, State};
 ghost use Rattle.trees.specs.Pieces.{roomFor};
 ghost use Rattle.record.specs.Numbers as Numbers;
 ghost use Rattle.record.specs.Numbers.{spelt, decimal};
-ghost use Rattle.replies.specs.Lines.{crlf, field};
+ghost use Rattle.record.specs.Input.{begun, unended};
+ghost use Rattle.replies.specs.Lines.{crlf, field, lines};
 ghost use Rattle.replies.specs.Printed.{hexAt, pointAt, pointsFrom, Prints};
-ghost use Rattle.replies.specs.Programs.{Wrote};
+ghost use Rattle.replies.specs.Programs.{Wrote, longest};
 use answers::room;
+use record::lines::skipped;
 use words::get;
 
-// The character of a digit: arithmetic, since digits and letters alternate at random.
+// The character of a digit.
 fn glyph(d: u8) -> u8
     requires { ⌜ d < 16 ⌝ }
     ensures { λ r. ⌜ r ≡ Numbers.glyph d ⌝ }
@@ -109,19 +113,30 @@ fn put_whole(out: &mut [u8], at: usize, n: u32) -> usize
     put_decimal(out, e, n)
 }
 
-// Writes a comma and the 16 hex digits of float number i: two digits for each byte, the last byte first.
+// Writes a comma and the 16 hex digits of float number i: two digits for each byte, the last byte first. The bytes are read before the first digit is
+// written: only then does the compiler make the digits of all of them at once.
 fn put_hex(out: &mut [u8], at: usize, coords: &[u8], i: usize) -> usize
     requires { ⌜ at + 17 ≤ length (now out) ⌝ }
     requires lent { ⌜ 8 * i + 8 ≤ length (now coords) ⌝ }
     ensures { λ r. ⌜ Wrote (now (out .entry)) at (field (hexAt (now (coords .entry)) i)) (now (out .exit)) r ⌝ }
     ensures end { λ r. ⌜ r ≡ at + 17 ⌝ }
 {
-    let from = 8 * i;
+    let j = 8 * i;
+    let s = [
+        coords[j],
+        coords[j + 1],
+        coords[j + 2],
+        coords[j + 3],
+        coords[j + 4],
+        coords[j + 5],
+        coords[j + 6],
+        coords[j + 7],
+    ];
     let mut w = put_byte(out, at, b',');
     let mut k = 8;
     while k > 0 {
         k -= 1;
-        let b = coords[from + k];
+        let b = s[k];
         out[w] = glyph(b / 16);
         out[w + 1] = glyph(b % 16);
         w += 2;
@@ -250,4 +265,28 @@ pub fn put_told(
         return at;
     }
     put_found(out, at, axes, count, coords, payloads)
+}
+
+// Whether there is room for the longest line.
+pub fn has_room(axes: u8, out: &[u8], at: usize) -> bool
+    ensures { λ r. ⌜ r ≡ leb (at + longest axes) (length (now (out .entry))) ⌝ }
+{
+    let size = out.len();
+    if at > size {
+        return false;
+    }
+    let line = 14 + (17 * (axes as usize) + 11) * 512;
+    line <= size - at
+}
+
+// Answers what stands after the last line end: nothing, or a record that has none.
+pub fn finish(text: &[u8], start: bool, out: &mut [u8]) -> usize
+    ensures { λ r. ⌜ (12 ≤ length (now (out .entry)) → (k : Kind) (a : State) → Wrote (now (out .entry)) 0 (lines k a (unended (begun start (now (text .entry))))) (now (out .exit)) r) ⌝ }
+    ensures within { λ r. ⌜ r ≤ length (now (out .entry)) ⌝ }
+{
+    let n = skipped(text, start);
+    if n < text.len() {
+        return put_reply(out, 0, 9);
+    }
+    0
 }

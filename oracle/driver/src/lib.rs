@@ -4,6 +4,7 @@ pub mod bits;
 pub mod calls;
 pub mod check;
 pub mod compare;
+pub mod edges;
 pub mod functions;
 pub mod generate;
 pub mod inputs;

@@ -1,5 +1,7 @@
 //! The recorded streams: which there are, and how they are made.
 
+use crate::check::example_streams;
+use crate::edges;
 use crate::generate::generate;
 use crate::program::answers;
 use crate::questions;
@@ -24,6 +26,18 @@ pub const PLAN: [(&str, u64, usize); 13] = [
     ("damaged", 12, 150),
 ];
 
+/// Kind, seed and count of the streams that programs replay, besides the examples and the edges of the format.
+const REPLAYED: [(&str, u64, usize); 5] = [
+    ("grid", 103, 400),
+    ("clustered", 102, 400),
+    ("coincident", 104, 250),
+    ("full", 105, 560),
+    ("merges", 107, 400),
+];
+
+/// Where the inputs and outputs of programs stand, each in a folder with the name of a crate.
+const PROGRAMS: &str = "records/";
+
 /// The seed of the questions about geometry.
 const QUESTIONS_SEED: u64 = 13;
 
@@ -45,12 +59,23 @@ pub fn make() -> Result<Vec<Recording>, String> {
 }
 
 fn of_space<S: Space>() -> Result<Vec<Recording>, String> {
-    let make = |(kind, seed, count): (&str, u64, usize)| {
-        let asked = generate::<S>(kind, seed, count).ok_or(format!("no kind {kind}"))?;
+    let recording = |name: String, asked: Vec<u8>| {
         let answered = answers::<Room<S>>(S::AXES, S::WORD, &asked);
-        Ok(Recording { name: format!("{}-{kind}", S::WORD), asked, answered })
+        Recording { name, asked, answered }
     };
-    PLAN.into_iter().map(make).collect()
+    let made = |(kind, seed, count)| generate::<S>(kind, seed, count).ok_or(format!("no kind {kind}"));
+    let mut all = Vec::new();
+    for plan in PLAN {
+        all.push(recording(format!("{}-{}", S::WORD, plan.0), made(plan)?));
+    }
+    let examples = example_streams::<S>().into_iter().flat_map(|(_, stream)| stream).collect();
+    all.push(recording(format!("{PROGRAMS}{}", S::WORD), examples));
+    let replay = |name: &str| format!("{PROGRAMS}{}_{name}", S::WORD);
+    for plan in REPLAYED {
+        all.push(recording(replay(plan.0), made(plan)?));
+    }
+    all.push(recording(replay("edges"), edges::joined::<S>()));
+    Ok(all)
 }
 
 /// Writes all recordings to a folder.
@@ -58,19 +83,23 @@ pub fn write(folder: &Path) -> Result<(), String> {
     for recording in make()? {
         for (ending, bytes) in [("csv", &recording.asked), ("answers", &recording.answered)] {
             let path = place(folder, &recording.name, ending);
+            let parent = path.parent().unwrap_or(folder);
+            std::fs::create_dir_all(parent).map_err(|e| format!("{}: {e}", parent.display()))?;
             std::fs::write(&path, bytes).map_err(|e| format!("{}: {e}", path.display()))?;
         }
     }
     Ok(())
 }
 
-/// Where a recorded file stands. The questions about geometry are the input of the program that
-/// replays them, and their answers what it must write.
+/// Where a recorded file stands. What a program replays is its input, and the answers what it must write.
 fn place(folder: &Path, name: &str, ending: &str) -> PathBuf {
-    let replay = folder.join("../../crates/replay_geometry");
-    match (name, ending) {
-        ("geometry", "csv") => replay.join("stdin"),
-        ("geometry", _) => replay.join("stdout"),
+    let crates = folder.join("../../crates");
+    let stream = if ending == "csv" { "stdin" } else { "stdout" };
+    match name {
+        "geometry" => crates.join("replay_geometry").join(stream),
+        "records/quad" => crates.join("quad").join(stream),
+        "records/oct" => crates.join("oct").join(stream),
+        _ if name.starts_with(PROGRAMS) => folder.join(name).join(stream),
         _ => folder.join(format!("{name}.{ending}")),
     }
 }

@@ -24,18 +24,88 @@ pub fn acceptable(boundary: &[f64]) -> bool {
     boundary.iter().all(|x| x.abs() <= most) && extents.iter().all(|x| *x >= 0.0)
 }
 
-/// The unchanged tree gives every answer; `shape`, from the opened module and fed the same calls,
-/// only counts nodes.
-pub struct Room<S: Space> {
+/// An opened tree with the limits of Room and document 01's replies. The nodes are counted as they come and go.
+pub struct Limited<S: Space> {
     boundary: S::Volume,
+    shape: S::Shape,
+    nodes: usize,
+}
+
+impl<S: Space> Limited<S> {
+    /// "creation 3, 4": the capacity first, then the boundary.
+    pub fn create(boundary: &[f64], capacity: u32) -> Result<Self, u8> {
+        let volume = S::volume(boundary);
+        let shape = S::shape(&volume, capacity as usize).map_err(|_| NO_CAPACITY)?;
+        if !acceptable(boundary) {
+            return Err(BAD_BOUNDARY);
+        }
+        Ok(Limited { boundary: volume, shape, nodes: 1 })
+    }
+
+    pub fn boundary(&self) -> &S::Volume {
+        &self.boundary
+    }
+
+    pub fn shape(&self) -> &S::Shape {
+        &self.shape
+    }
+
+    pub fn nodes(&self) -> usize {
+        self.nodes
+    }
+
+    fn inside(&self, item: &S::Item) -> bool {
+        S::volume_contains(&self.boundary, item)
+    }
+
+    /// "insert 1, 5, 6".
+    pub fn insert(&mut self, item: S::Item) -> u8 {
+        if !self.inside(&item) {
+            return OUTSIDE;
+        }
+        if self.shape.len() >= MOST_POINTS {
+            return POINTS_FULL;
+        }
+        let nodes = self.nodes + self.shape.added(&item);
+        if nodes > most_nodes(S::AXES) {
+            return NODES_FULL;
+        }
+        self.nodes = nodes;
+        stored(self.shape.insert(item));
+        DONE
+    }
+
+    /// "delete 1, 2". Each merge is on the point's path and takes all children of a node away.
+    pub fn delete(&mut self, item: &S::Item) -> u8 {
+        let before = self.shape.depth_at(item);
+        if !self.shape.delete(item) {
+            return if self.inside(item) { NOT_HELD } else { OUTSIDE };
+        }
+        self.nodes -= (before - self.shape.depth_at(item)) << S::AXES;
+        DONE
+    }
+
+    pub fn clear(&mut self) {
+        self.shape.clear();
+        self.nodes = 1;
+    }
+}
+
+/// The Rust stores every point that is inside.
+pub fn stored<E>(insert: Result<bool, E>) {
+    assert!(matches!(insert, Ok(true)), "a point that is inside is stored");
+}
+
+/// The unchanged tree gives every answer; the opened one, fed the same calls, says what is refused.
+pub struct Room<S: Space> {
     capacity: usize,
     tree: S::Tree,
-    shape: S::Shape,
+    limited: Limited<S>,
 }
 
 impl<S: Space> Room<S> {
     pub fn boundary(&self) -> &S::Volume {
-        &self.boundary
+        self.limited.boundary()
     }
 
     pub fn capacity(&self) -> usize {
@@ -46,8 +116,12 @@ impl<S: Space> Room<S> {
         &self.tree
     }
 
+    pub fn limited(&self) -> &Limited<S> {
+        &self.limited
+    }
+
     pub fn shape(&self) -> &S::Shape {
-        &self.shape
+        self.limited.shape()
     }
 
     fn answer(found: Vec<&S::Item>) -> Vec<Point> {
@@ -57,44 +131,26 @@ impl<S: Space> Room<S> {
 
 impl<S: Space> Calls for Room<S> {
     fn create(boundary: &[f64], capacity: u32) -> Result<Self, u8> {
-        let volume = S::volume(boundary);
+        let limited = Limited::create(boundary, capacity)?;
         let capacity = capacity as usize;
-        let tree = S::tree(&volume, capacity).map_err(|_| NO_CAPACITY)?;
-        let shape = S::shape(&volume, capacity).map_err(|_| NO_CAPACITY)?;
-        if !acceptable(boundary) {
-            return Err(BAD_BOUNDARY);
-        }
-        Ok(Room { boundary: volume, capacity, tree, shape })
+        let tree = S::tree(limited.boundary(), capacity).map_err(|_| NO_CAPACITY)?;
+        Ok(Room { capacity, tree, limited })
     }
 
     fn insert(&mut self, point: &Point) -> u8 {
         let item = S::item(&point.at, point.payload);
-        let mut grown = self.shape.clone();
-        if !matches!(grown.insert(item.clone()), Ok(true)) {
-            return OUTSIDE;
+        let reply = self.limited.insert(item.clone());
+        if reply == DONE {
+            stored(self.tree.insert(item));
         }
-        if self.tree.len() >= MOST_POINTS {
-            return POINTS_FULL;
-        }
-        if grown.nodes() > most_nodes(S::AXES) {
-            return NODES_FULL;
-        }
-        self.shape = grown;
-        if matches!(self.tree.insert(item), Ok(true)) {
-            DONE
-        } else {
-            OUTSIDE
-        }
+        reply
     }
 
     fn delete(&mut self, point: &Point) -> u8 {
         let item = S::item(&point.at, point.payload);
-        self.shape.delete(&item);
-        match self.tree.delete(&item) {
-            true => DONE,
-            false if S::volume_contains(&self.boundary, &item) => NOT_HELD,
-            false => OUTSIDE,
-        }
+        let reply = self.limited.delete(&item);
+        assert_eq!(self.tree.delete(&item), reply == DONE, "both trees hold the same points");
+        reply
     }
 
     fn contains(&self, point: &Point) -> bool {
@@ -107,7 +163,7 @@ impl<S: Space> Calls for Room<S> {
 
     fn clear(&mut self) {
         self.tree.clear();
-        self.shape.clear();
+        self.limited.clear();
     }
 
     fn range(&self, centre: &[f64], radius: f64) -> Vec<Point> {

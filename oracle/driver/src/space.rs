@@ -34,6 +34,8 @@ pub trait Space: 'static {
     fn item(at: &[f64], payload: u32) -> Self::Item;
     fn point(item: &Self::Item) -> Point;
     fn payload(item: &Self::Item) -> u32;
+    /// Hands over each coordinate in turn.
+    fn coordinates(item: &Self::Item, each: impl FnMut(f64));
     /// The inherent `contains` of the box.
     fn volume_contains(volume: &Self::Volume, item: &Self::Item) -> bool;
     /// The inherent `is_empty` of the tree.
@@ -75,6 +77,9 @@ macro_rules! space {
             }
             fn payload(item: &Self::Item) -> u32 {
                 item.data.unwrap_or(0)
+            }
+            fn coordinates(item: &Self::Item, mut each: impl FnMut(f64)) {
+                $(each(item.$axis);)*
             }
             fn volume_contains(volume: &$volume, item: &Self::Item) -> bool {
                 volume.contains(item)

@@ -7,9 +7,8 @@ use crate::shape::{same_bits, same_shape};
 use lent::memory::{Answer, Memory};
 use lent::renumber::renumber;
 use lent::sound::sound;
-use oracle::calls::{BAD_BOUNDARY, DONE, NO_CAPACITY};
+use oracle::calls::DONE;
 use oracle::random::Random;
-use oracle::room::acceptable;
 use ralikudo::generic::{self, bytes, points, Lent, Library, Point, Shared, Volume};
 use ralikudo::Reply;
 
@@ -90,16 +89,14 @@ where
     }
 
     fn create(&mut self, boundary: &Volume<N>, capacity: u32) -> Result<u8, String> {
-        let made = Rust::new(boundary, capacity);
-        let number = match &made {
-            None => NO_CAPACITY,
-            Some(_) if !acceptable(&[boundary.corner, boundary.extent].concat()) => BAD_BOUNDARY,
-            Some(_) => DONE,
-        };
         let reply = self.ours.lent().create(*boundary, capacity);
-        if number == DONE {
-            self.rust = made;
-        }
+        let number = match Rust::create(boundary, capacity) {
+            Ok(made) => {
+                self.rust = Some(made);
+                DONE
+            }
+            Err(refused) => refused,
+        };
         self.changed(reply, wanted(number, 0))
     }
 

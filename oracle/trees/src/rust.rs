@@ -2,17 +2,12 @@
 //! one, fed the same calls, shows its nodes.
 
 use crate::kind::{Kind, SpaceOf};
-use oracle::calls::{DONE, NODES_FULL, NOT_HELD, OUTSIDE, POINTS_FULL};
-use oracle::room::{most_nodes, MOST_POINTS};
+use oracle::calls::{DONE, NO_CAPACITY, OUTSIDE};
+use oracle::room::{stored, Limited};
 use oracle::space::Space;
 use ralikudo::generic::{Library, Point, Volume};
 use spart::index::SpatialIndex;
 use spart::opened::Opened;
-
-/// An insert divides a node on each of 32 levels at most.
-const fn most_new(axes: usize) -> usize {
-    32 << axes
-}
 
 type Item<const N: usize> = <SpaceOf<N> as Space>::Item;
 
@@ -20,10 +15,8 @@ pub struct Rust<const N: usize>
 where
     Library: Kind<N>,
 {
-    boundary: <SpaceOf<N> as Space>::Volume,
     tree: <SpaceOf<N> as Space>::Tree,
-    shape: <SpaceOf<N> as Space>::Shape,
-    nodes: usize,
+    limited: Limited<SpaceOf<N>>,
 }
 
 /// A point of the Rust's as ours.
@@ -55,20 +48,15 @@ where
         found.into_iter().map(point).collect()
     }
 
-    fn inside(&self, item: &Item<N>) -> bool {
-        SpaceOf::<N>::volume_contains(&self.boundary, item)
-    }
-
-    /// A tree, or nothing where the Rust refuses the capacity. The boundary is acceptable.
-    pub fn new(boundary: &Volume<N>, capacity: u32) -> Option<Self> {
-        let boundary = Self::volume(boundary);
-        let tree = SpaceOf::<N>::tree(&boundary, capacity as usize).ok()?;
-        let shape = SpaceOf::<N>::shape(&boundary, capacity as usize).ok()?;
-        Some(Rust { boundary, tree, shape, nodes: 1 })
+    /// A tree, or the number with which it is refused.
+    pub fn create(boundary: &Volume<N>, capacity: u32) -> Result<Self, u8> {
+        let limited = Limited::create(&[boundary.corner, boundary.extent].concat(), capacity)?;
+        let tree = SpaceOf::<N>::tree(limited.boundary(), capacity as usize).map_err(|_| NO_CAPACITY)?;
+        Ok(Rust { tree, limited })
     }
 
     pub fn shape(&self) -> &<SpaceOf<N> as Space>::Shape {
-        &self.shape
+        self.limited.shape()
     }
 
     pub fn unchanged(&self) -> &<SpaceOf<N> as Space>::Tree {
@@ -76,30 +64,16 @@ where
     }
 
     pub fn nodes(&self) -> usize {
-        self.nodes
+        self.limited.nodes()
     }
 
-    /// "insert 8, 1, 5, 6": where nodes may run short a clone tells how many there would be.
     pub fn insert(&mut self, p: &Point<N>) -> u8 {
         let item = Self::item(p);
-        if !self.inside(&item) {
-            return OUTSIDE;
+        let reply = self.limited.insert(item.clone());
+        if reply == DONE {
+            stored(self.tree.insert(item));
         }
-        if self.tree.len() == MOST_POINTS {
-            return POINTS_FULL;
-        }
-        if self.nodes + most_new(N) > most_nodes(N) {
-            let mut grown = self.shape.clone();
-            stored(grown.insert(item.clone()));
-            if grown.nodes() > most_nodes(N) {
-                return NODES_FULL;
-            }
-        }
-        stored(self.shape.insert(item.clone()));
-        stored(self.tree.insert(item));
-        self.nodes = self.shape.nodes();
-        assert!(self.nodes <= most_nodes(N), "an insert took more nodes than thought");
-        DONE
+        reply
     }
 
     /// How many are stored, and what stopped it.
@@ -117,18 +91,14 @@ where
 
     pub fn delete(&mut self, p: &Point<N>) -> u8 {
         let item = Self::item(p);
-        if !self.tree.delete(&item) {
-            return if self.inside(&item) { NOT_HELD } else { OUTSIDE };
-        }
-        self.shape.delete(&item);
-        self.nodes = self.shape.nodes();
-        DONE
+        let reply = self.limited.delete(&item);
+        assert_eq!(self.tree.delete(&item), reply == DONE, "both trees hold the same points");
+        reply
     }
 
     pub fn clear(&mut self) {
         self.tree.clear();
-        self.shape.clear();
-        self.nodes = 1;
+        self.limited.clear();
     }
 
     pub fn contains(&self, p: &Point<N>) -> bool {
@@ -158,12 +128,7 @@ where
     /// All points held, in the order of the tree.
     pub fn held(&self) -> Vec<Point<N>> {
         let mut held = Vec::new();
-        self.shape.look(&mut |node| held.extend(node.points.iter().map(point)));
+        self.shape().look(&mut |node| held.extend(node.points.iter().map(point)));
         held
     }
-}
-
-/// The Rust stores every point that is inside.
-fn stored<E>(insert: Result<bool, E>) {
-    assert!(matches!(insert, Ok(true)), "a point that is inside is stored");
 }

@@ -56,16 +56,38 @@ fn spans() -> Outcome {
     }
 }
 
-/// (8,8.5) gets 1 also where 512 points are held, and a point inside gets 5.
+/// Every example that records can say, as a stream of records with its name.
+pub fn streams<S: Space>() -> Vec<(&'static str, Vec<u8>)> {
+    let (examples, worked) =
+        if S::AXES == 2 { (PLANE, Some(("worked", WORKED.into()))) } else { (SOLID, None) };
+    let examples = examples.iter().map(|(name, steps)| (*name, plain::records(steps)));
+    let full = full_steps::<S>();
+    worked
+        .into_iter()
+        .chain(examples)
+        .chain([("outside-with-512-held", plain::records(&borrowed(&full)))])
+        .collect()
+}
+
+type Owned = (String, String);
+
+fn borrowed(steps: &[Owned]) -> Vec<Step<'_>> {
+    steps.iter().map(|(asked, answer)| (asked.as_str(), answer.as_str())).collect()
+}
+
 fn full<S: Space>() -> Outcome {
+    plain::run::<S>(&borrowed(&full_steps::<S>()))
+}
+
+/// (8,8.5) gets 1 also where 512 points are held, and a point inside gets 5.
+fn full_steps<S: Space>() -> Vec<Owned> {
     let place = |first: &str, last: &str| [vec![first; S::AXES - 1], vec![last]].concat().join(" ");
     let boundary = [vec!["0"; S::AXES], vec!["8"; S::AXES]].concat().join(" ");
     let mut steps = vec![(format!("{} {boundary} 600", S::WORD), "0".to_string())];
     steps.extend((0..512).map(|i| (format!("insert {} {i}", place("1", "1")), "0".to_string())));
     steps.push((format!("insert {} 512", place("8", "8.5")), "1".into()));
     steps.push((format!("insert {} 513", place("8", "8")), "5".into()));
-    let steps: Vec<Step> = steps.iter().map(|(asked, answer)| (asked.as_str(), answer.as_str())).collect();
-    plain::run::<S>(&steps)
+    steps
 }
 
 /// Records in plain numbers with their answers; `plain` says what the lines with a question mark ask.
@@ -175,6 +197,17 @@ const PLANE: &[(&str, &[Step])] = &[
 ];
 
 const SOLID: &[(&str, &[Step])] = &[
+    (
+        "worked",
+        &[
+            ("oct 0 0 0 8 8 8 1", "0"),
+            ("insert 4 1 0 7", "0"),
+            ("insert 1 1 0 9", "0"),
+            ("range 4 1 0 3", "0 2 | 1 1 0 9 | 4 1 0 7"),
+            ("delete 4 1 0 8", "2"),
+            ("len", "0 2"),
+        ],
+    ),
     (
         "route",
         &[

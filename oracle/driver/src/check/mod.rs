@@ -10,6 +10,7 @@ mod report;
 mod streams;
 mod words;
 
+pub use examples::streams as example_streams;
 pub use report::Report;
 use std::path::Path;
 

@@ -46,6 +46,12 @@ fn number(word: &str) -> f64 {
     }
 }
 
+/// The records of the steps, ended by LF; steps that look into the tree have none.
+pub fn records(steps: &[Step]) -> Vec<u8> {
+    let asked = steps.iter().map(|(asked, _)| asked).filter(|asked| !asked.starts_with('?'));
+    asked.flat_map(|asked| (record(asked) + "\n").into_bytes()).collect()
+}
+
 /// The record of a step: the last number is whole after these words, all others are floats.
 fn record(step: &str) -> String {
     let words: Vec<&str> = step.split(' ').collect();

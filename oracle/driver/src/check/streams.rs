@@ -7,6 +7,7 @@ use crate::record::{records, Record};
 use crate::room::Room;
 use crate::rules::tree::Tree;
 use crate::space::{Plane, Solid, Space};
+use spart::opened::Opened;
 
 /// Streams of each kind and records in each.
 const STREAMS: u64 = 10;
@@ -32,7 +33,7 @@ fn kind_alike<S: Space>(kind: &str) -> Outcome {
     Ok(format!("{answered} records of the Rust and of the rules"))
 }
 
-/// Both programs answer each record alike, and the opened tree prints as the unchanged one.
+/// Both programs answer each record alike, the opened tree prints as the unchanged one, and its nodes are counted.
 fn alike<S: Space>(stream: &[u8]) -> Result<usize, String> {
     let mut rust = Program::<Room<S>>::new(S::AXES, S::WORD);
     let mut rules = Program::<Tree>::new(S::AXES, S::WORD);
@@ -48,6 +49,9 @@ fn alike<S: Space>(stream: &[u8]) -> Result<usize, String> {
         let room = rust.held.as_ref().filter(|_| number % 50 == 0);
         if room.is_some_and(|room| format!("{:?}", room.tree()) != format!("{:?}", room.shape())) {
             return Err(format!("{}: the opened tree is another", shown()));
+        }
+        if room.is_some_and(|room| room.limited().nodes() != room.shape().nodes()) {
+            return Err(format!("{}: the nodes are counted wrongly", shown()));
         }
     }
     Ok(number)

@@ -1,0 +1,2 @@
+-- What the quadtree program's own types mean. Definitions only.
+pub mod Commands
