@@ -178,7 +178,7 @@ after-first of [] = []
 after-first of (q ∷ []) = []
 after-first of (q ∷ r ∷ ps) = parts of (r ∷ ps)
 
-unended-some : (s : List ℕ) → 1 ≤ length s → unended s ≡ none ∷ []
+pub unended-some : (s : List ℕ) → 1 ≤ length s → unended s ≡ none ∷ []
 unfolding unended
 unended-some [] h = absurd (not-suc-le-zero h)
 unended-some (b ∷ s) h = refl

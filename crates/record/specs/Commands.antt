@@ -6,7 +6,6 @@ use mathlib.Core.List.{List, [], _∷_, zipWith}
 use mathlib.Core.Option.{Option, none, some}
 use lib.ListN.{getD, take, drop}
 use lib.Ieee.{Float, nan}
-use Rattle.model.specs.Boxes.{Side}
 use Rattle.model.specs.Calls.{Call, Create, Insert, Delete, Clear, Ask, Contains, Len, Radius, Box, Nearest}
 use Rattle.record.specs.Text.{split, same, has}
 use Rattle.record.specs.Numbers.{numberOf, wholeOf}

@@ -59,7 +59,7 @@ places n =
     cond (ltb n 10) 1 (cond (ltb n 100) 2 (cond (ltb n 1000) 3 (cond (ltb n 10000) 4 (cond (ltb n 100000) 5
     (cond (ltb n 1000000) 6 (cond (ltb n 10000000) 7 (cond (ltb n 100000000) 8 (cond (ltb n 1000000000) 9 10))))))))
 
--- a whole number in decimal, with no leading zero
+-- a whole number below 10000000000 in decimal, with no leading zero
 unfoldable pub decimal : ℕ → List ℕ
 unfolding spelt places
 decimal n = spelt 10 (places n) n

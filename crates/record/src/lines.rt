@@ -13,7 +13,7 @@ pub struct Line {
     pub fits: bool,
 }
 
-// How many bytes of the mark an input begins with, if this is its very start.
+// 3 where an input begins with the mark and this is its very start, and 0 otherwise.
 pub fn skipped(s: &[u8], start: bool) -> usize
     ensures { λ r. ⌜ (r ≤ length (now (s .entry))) × (drop r (now (s .entry)) ≡ begun start (now (s .entry))) ⌝ }
 {

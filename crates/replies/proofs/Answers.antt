@@ -1,8 +1,8 @@
 -- What a program does for a record, from what the calls of a tree promise. Over any kind of tree.
 use Prim.Native.Nat.{ℕ, _+_, _*_, _≤_, _<_, min}
 use mathlib.Core.Path.{_≡_, refl, sym, ap, _∙_, subst}
-use mathlib.Core.Bool.{Bool, true, false, cond, _||_, or-false, or-true}
-use mathlib.Core.List.{List, [], _∷_, _++_, append-nil}
+use mathlib.Core.Bool.{Bool, true, false, _||_, or-false, or-true}
+use mathlib.Core.List.{List, [], _++_}
 use mathlib.Core.Option.{Option, none, some}
 use native.Mathlib.Nat.{le-trans, mul-le-mul-left}
 use native.Mathlib.Omega.{arith}
@@ -14,7 +14,7 @@ use Rattle.model.specs.Soundness.{All}
 use Rattle.model.specs.Trees.{Point}
 use Rattle.model.specs.Trees as trees
 use Rattle.model.specs.Searches.{box, nearest, radius}
-use Rattle.model.specs.Calls.{Ask, Box, Call, Clear, Contains, Create, Delete, Insert, IsEmpty, Kind, Len, Nearest, Outcome, Plan, Query, Radius, Reply, State, ask, badBoundary, broken, call, create, empty, give, misfit, noCapacity, noRoom, noTree, number, onBroken, refuse, searchCall, step, tree}
+use Rattle.model.specs.Calls.{Ask, Box, Call, Clear, Contains, Create, Delete, Insert, IsEmpty, Kind, Len, Nearest, Outcome, Plan, Query, Radius, State, ask, badBoundary, broken, call, create, empty, give, misfit, noCapacity, noRoom, noTree, number, onBroken, refuse, searchCall, step, tree}
 use Rattle.model.proofs.Calls.{delete-ends, insert-ends}
 use Rattle.model.proofs.Counts.{cond-same}
 use Rattle.trees.specs.Pieces.{AsksHeld, Does, DoesHeld, Pieces, Says, SearchesHeld, roomFor}

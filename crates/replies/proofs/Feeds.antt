@@ -16,7 +16,7 @@ use Rattle.record.specs.Input.{begun, ended, records, unended, Unended}
 use Rattle.record.specs.Numbers.{decimal}
 use Rattle.record.proofs.Kept.{kept-front}
 use Rattle.record.proofs.Parts.{by-lt, rest-is}
-use Rattle.record.proofs.Streams.{records-line, unended-take}
+use Rattle.record.proofs.Streams.{records-line, unended-some, unended-take}
 use Rattle.replies.specs.Lines.{answer, crlf, lines}
 use Rattle.replies.specs.Programs.{Answers, Drains, Fed, Feeds, Keeps, Wrote, longest}
 use Rattle.replies.specs.Runs.{Digests, Run, clip, fed}
@@ -62,11 +62,6 @@ module _ (k : Kind) (of : List ℕ → Option Call) where
       record { state = h .state; printed = f .printed ++ h .printed; fed = fed-then k of (f .fed) (h .fed); wrote = then o o₁ o₂ (f .printed) (h .printed) at r₁ r₂ (f .wrote) (h .wrote); keeps = h .keeps }
 
 -- ---- the end
-unended-some : (t : List ℕ) → 1 ≤ length t → unended t ≡ none ∷ []
-unfolding unended
-unended-some [] h = absurd (omega arith)
-unended-some (b ∷ t) h = refl
-
 nine : (k : Kind) (a : State) → lines k a (none ∷ []) ≡ decimal 9 ++ crlf
 unfolding lines answer number
 nine k a = append-nil (decimal 9 ++ crlf)

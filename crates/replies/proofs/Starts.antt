@@ -1,5 +1,4 @@
 -- Where a program begins: pieces of zeros hold no tree. Over any kind of tree.
-use Prim.Native.Nat.{ℕ}
 use mathlib.Core.Path.{_≡_, refl, ap, _∙_}
 use mathlib.Core.Bool.{false}
 use native.Mathlib.Omega.{arith}

@@ -11,6 +11,7 @@ use lib.Seq.{sets, set-comm}
 use lib.Dec.{ltb}
 use mir.Val.{boolByte}
 use borrow.Author.Tests.{lt-ltb, le-ltb}
+use Rattle.record.proofs.Round.{spelt-length}
 use Rattle.record.specs.Numbers.{glyph, spelt, places, decimal}
 use Rattle.pool.proofs.Lists.{by-lt}
 use Rattle.trees.proofs.Walks.{sets-append}
@@ -33,11 +34,6 @@ letter-small false = omega arith
 pub glyph-is : (d : ℕ) → 48 + d + 7 * boolByte (ltb 9 d) ≡ glyph d
 unfolding glyph
 glyph-is d = by-lt d 10 (λ h. simp (lt-ltb d 10 h, le-ltb 9 d (omega arith)) (omega arith)) (λ h. simp (le-ltb d 10 h, lt-ltb 9 d (omega arith)) (omega arith))
-
-pub spelt-length : (base k n : ℕ) → length (spelt base k n) ≡ k
-unfolding spelt
-spelt-length base zero n = refl
-spelt-length base (suc k) n = omega (arith, length-append (spelt base k (n / base)) (glyph (n % base) ∷ []), spelt-length base k (n / base))
 
 -- a store behind a run of stores may come first
 sets-snoc : (xs o : List ℕ) (at g : ℕ) → sets (set o (at + length xs) g) at xs ≡ sets o at (xs ++ (g ∷ []))

@@ -4,9 +4,8 @@ use mathlib.Core.Bool.{Bool, true, false, cond, _||_}
 use mathlib.Core.List.{List, [], _∷_, _++_, map, flatten}
 use mathlib.Core.Option.{Option, none, some}
 use lib.Dec.{eqb}
-use lib.Ieee.{Float}
 use Rattle.model.specs.Trees.{Point}
-use Rattle.model.specs.Calls.{Reply, noTree, notUnderstood, number, Kind, State, misfit, broken, tree, Query, Contains, Len, IsEmpty, Radius, Box, Nearest, Call, Create, Insert, Bulk, Delete, Clear, Ask, Outcome, refuse, step}
+use Rattle.model.specs.Calls.{noTree, notUnderstood, number, Kind, State, misfit, broken, tree, Query, Contains, Len, IsEmpty, Radius, Box, Nearest, Call, Create, Insert, Bulk, Delete, Clear, Ask, Outcome, refuse, step}
 use Rattle.record.specs.Numbers.{decimal, hex}
 
 -- ---- a line

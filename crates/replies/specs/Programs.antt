@@ -1,7 +1,7 @@
 -- What the code of a command program does: bytes written to a lent slice, the tree that its pieces hold, and how far it is in its input. Definitions only.
 use mathlib.Core.Path.{_≡_}
 use mathlib.Core.Bool.{Bool}
-use mathlib.Core.List.{List, [], _∷_, _++_}
+use mathlib.Core.List.{List, _++_}
 use mathlib.Core.Option.{Option}
 use Prim.Native.Nat.{ℕ, _+_, _*_}
 use lib.ListN.{length}
@@ -19,7 +19,7 @@ Wrote before at bytes after r = (r ≡ at + length bytes) × (after ≡ sets bef
 abbrev pub Keeps : Kind → (held : Bool) → Pieces → State → Type 0
 Keeps k held s a = (held ≡ held? a) × Says k s a
 
--- the longest line: 0, a count of three digits, and 512 points
+-- no line is longer: a reply, a count and the line end have at most 14 bytes, a float 17 with its comma, a payload 11; and there are at most 512 points
 abbrev pub longest : (axes : ℕ) → ℕ
 longest axes = 14 + (17 * axes + 11) * 512
 

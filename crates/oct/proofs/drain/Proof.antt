@@ -12,12 +12,12 @@ use Rattle.oct.proofs.drain.Statement.{statement}
 use Rattle.oct.proofs.drain.Tie as tie
 
 abbrev Inv-loop : tie.InvT-loop
-Inv-loop text start held head₀ nodes₀ links₀ points₀ out₀ at₀ first₀ has₀ why₀ head nodes links points out at first has why =
+Inv-loop text start held head₀ nodes₀ links₀ points₀ out₀ at₀ first₀ has₀ written₀ why₀ head nodes links points out at first has written why =
     Draining octree says start held text (pieces head₀ nodes₀ links₀ points₀) first has (pieces head nodes links points) at why
     × (length head ≡ length head₀) × (length nodes ≡ length nodes₀) × (length links ≡ length links₀) × (length points ≡ length points₀) × (length out ≡ length out₀)
 
 abbrev μ-loop : tie.MeasureT-loop
-μ-loop text start held head₀ nodes₀ links₀ points₀ out₀ at₀ first₀ has₀ why₀ head nodes links points out at first has why = 2 * (length text - at) + why
+μ-loop text start held head₀ nodes₀ links₀ points₀ out₀ at₀ first₀ has₀ written₀ why₀ head nodes links points out at first has written why = 2 * (length text - at) + why
 
 loop-holds : tie.Need-loop-holds Inv-loop μ-loop
 loop-holds c = (draining-start octree says _ _ _ _, refl, refl, refl, refl, refl)
@@ -55,23 +55,26 @@ loop-less c = draining-less octree says _ _ _ _ _ _ _ _ _ (c .before .before .be
 loop-again : tie.Need-loop-again Inv-loop μ-loop
 loop-again c = (draining-step octree says _ _ _ _ _ _ _ _ _ (c .before .before .before .before .before .before .before .before .before .before .before .before .before .before .before .before .before .before .before .before .before .before .loop .inv .0) _ _ _ _ _ _ _ _ (c .before .before .before .before .before .before .before .before .before .before .before .before .before .before .feed .ensures .0) (c .before .before .before .before .before .before .before .before .before .before .before .before .before .before .feed .ensures .1 .0) (c .before .before .before .before .before .before .before .before .before .before .before .before .before .before .feed .ensures .1 .1), c .before .before .before .before .before .before .before .before .before .before .before .before .before .before .feed .kept .1 .1 .1 .0 ∙ c .before .before .before .before .before .before .before .before .before .before .before .before .before .before .before .before .before .before .before .before .before .before .loop .inv .1, c .before .before .before .before .before .before .before .before .before .before .before .before .before .before .feed .kept .1 .1 .1 .1 .0 ∙ c .before .before .before .before .before .before .before .before .before .before .before .before .before .before .before .before .before .before .before .before .before .before .loop .inv .2, c .before .before .before .before .before .before .before .before .before .before .before .before .before .before .feed .kept .1 .1 .1 .1 .1 .0 ∙ c .before .before .before .before .before .before .before .before .before .before .before .before .before .before .before .before .before .before .before .before .before .before .loop .inv .3, c .before .before .before .before .before .before .before .before .before .before .before .before .before .before .feed .kept .1 .1 .1 .1 .1 .1 .0 ∙ c .before .before .before .before .before .before .before .before .before .before .before .before .before .before .before .before .before .before .before .before .before .before .loop .inv .4, c .before .before .before .before .before .before .before .before .before .before .before .before .before .before .feed .kept .1 .1 .1 .1 .1 .1 .1 .0 ∙ c .before .before .before .before .before .before .before .before .before .before .before .before .before .before .before .before .before .before .before .before .before .before .loop .inv .5)
 
+tell-unwritten-requires : tie.Need-tell-unwritten-requires Inv-loop μ-loop
+tell-unwritten-requires c κs = search needs
+
 same-length : tie.Need-same-length Inv-loop μ-loop
-same-length c = c .before .loop .inv .1
+same-length c = c .before .before .loop .inv .1
 
 same-length-2 : tie.Need-same-length-2 Inv-loop μ-loop
-same-length-2 c = c .before .loop .inv .2
+same-length-2 c = c .before .before .loop .inv .2
 
 same-length-3 : tie.Need-same-length-3 Inv-loop μ-loop
-same-length-3 c = c .before .loop .inv .3
+same-length-3 c = c .before .before .loop .inv .3
 
 same-length-4 : tie.Need-same-length-4 Inv-loop μ-loop
-same-length-4 c = c .before .loop .inv .4
+same-length-4 c = c .before .before .loop .inv .4
 
 same-length-5 : tie.Need-same-length-5 Inv-loop μ-loop
-same-length-5 c = c .before .loop .inv .5
+same-length-5 c = c .before .before .loop .inv .5
 
 returns : tie.Need-returns Inv-loop μ-loop
-returns c = (c .before .loop .inv .0 .drains, (c .before .loop .inv .0 .within, c .before .loop .inv .0 .ended (omega (arith, c .loop-test .left))))
+returns c = (c .before .before .loop .inv .0 .drains, (c .before .before .loop .inv .0 .within, c .before .before .loop .inv .0 .ended (omega (arith, c .before .loop-test .left))))
 
 pub drain-spec : {M : Type 1} → statement M
 drain-spec =
@@ -91,6 +94,7 @@ drain-spec =
     add-at
     loop-less
     loop-again
+    tell-unwritten-requires
     same-length
     same-length-2
     same-length-3

@@ -3,8 +3,9 @@ use Prim.Native.Nat.{ℕ, _≤_, _+_}
 use mathlib.Core.Path.{_≡_, refl, sym, ap, _∙_}
 use lib.ListN.{length}
 use lib.Seq.{sets}
+use Rattle.record.proofs.Round.{spelt-length}
 use Rattle.record.specs.Numbers.{spelt}
-use Rattle.replies.proofs.Written.{spelt-turn, spelt-done, spelt-length}
+use Rattle.replies.proofs.Written.{spelt-turn, spelt-done}
 use borrow.Author.Needs.{needs}
 use Rattle.replies.proofs.spell.Statement.{statement}
 use Rattle.replies.proofs.spell.Tie as tie
