@@ -5,12 +5,17 @@ use mathlib.Core.List.{List, [], flatten}
 use Prim.Native.Nat.{ℕ}
 use lib.ListN.{replicate}
 use Rattle.model.specs.Calls.{broken, quadtree}
+use Rattle.model.specs.History.{blank, ledger}
+use Rattle.model.proofs.After.{Fine}
+use Rattle.model.proofs.Calls.{quadtree-regular}
 use Rattle.words.specs.Words.{words}
 use Rattle.trees.specs.Pieces.{pieces}
+use Rattle.record.specs.Commands.{word-quad}
 use Rattle.record.specs.Input.{records}
-use Rattle.replies.specs.Lines.{lines}
+use Rattle.replies.specs.Lines.{lines, state}
 use Rattle.replies.specs.Programs.{Keeps}
 use Rattle.replies.specs.Runs.{Run}
+use Rattle.replies.proofs.History.{held-after-records, understoodOnly}
 use Rattle.replies.proofs.Runs.{any-cutting}
 use Rattle.replies.proofs.Starts.{none-yet}
 use Rattle.quad.specs.Commands.{says}
@@ -22,3 +27,7 @@ starts = none-yet quadtree (pieces (replicate 40 0) (replicate 5504 0) (replicat
 
 pub prints : {chunks : List (List ℕ)} {out : List ℕ} → Run quadtree says broken true [] chunks out → out ≡ lines quadtree broken (records says true (flatten chunks))
 prints r = any-cutting quadtree says r
+
+-- after any input the points held are the accepted inserts less the successful deletes
+pub held-after-input : (t : List ℕ) → Fine quadtree (state quadtree broken (records says true t)) (ledger quadtree broken (understoodOnly (records says true t)) blank)
+held-after-input t = held-after-records quadtree word-quad quadtree-regular t

@@ -1,7 +1,7 @@
 -- Laws of the numbers after a word, as the code reads them: floats in steps of 17 bytes, and the last field whole. Assumes nothing.
 use Prim.Native.Nat.{ℕ, zero, suc, _+_, _-_, _≤_, _<_, suc-le-suc}
 use mathlib.Core.Path.{_≡_, refl, sym, ap, ap₂, _∙_, subst}
-use mathlib.Core.Bool.{Bool, true, false, _||_, and-false}
+use mathlib.Core.Bool.{Bool, true, false, cond, _&&_, _||_, and-false}
 use mathlib.Core.List.{List, [], _∷_}
 use mathlib.Core.Option.{Option, none, some}
 use native.Mathlib.Nat.{not-suc-le-zero, le-of-suc-le-suc}
@@ -10,10 +10,13 @@ use native.Mathlib.Omega.{arith}
 use lib.ListN.{length, getD, take, drop, set, length-drop, length-set}
 use lib.Seq.{sets, drop-drop, getD-take, length-take-le, take-all}
 use lib.Dec.{T, eqb}
-use lib.Ieee.{Float}
+use lib.Ieee.{Float, binary64, ofBits}
+use lib.Ieee.Bits.{ofBits-fits}
 use borrow.Author.Tests.{eq-eqb, eqb-true, eqb-false, le-ltb}
+use Rattle.floats.proofs.Theorems.{F64}
+use Rattle.model.specs.Soundness.{All}
 use Rattle.record.specs.Text.{split, has}
-use Rattle.record.specs.Numbers.{digit, digits, numberOf, wholeOf}
+use Rattle.record.specs.Numbers.{digit, digits, numberOf, value, wholeOf}
 use Rattle.record.specs.Commands.{Numbers, numbersOf}
 use Rattle.record.specs.Read.{floatIn, wholeIn, rest, Reads}
 use Rattle.record.specs.declared.numbers.Number.{Number}
@@ -343,40 +346,48 @@ counted fs r before after e f g = subst (λ (o : Option Numbers). Reads o r befo
 
 -- ---- what was read, from the answer
 
-Long : ℕ → Option Numbers → Type 0
-Long n none = Unit {0}
-Long n (some m) = length (m .floats) ≡ n
+-- so many floats, each of binary64
+abbrev pub Right : ℕ → Option Numbers → Type 0
+Right n none = Unit {0}
+Right n (some m) = (length (m .floats) ≡ n) × All F64 (m .floats)
 
-long-more : (n : ℕ) (x : Float) (o : Option Numbers) → Long n o → Long (suc n) (more x o)
-unfolding Long more
-long-more n x none h = h
-long-more n x (some m) h = ap suc h
-
--- all floats are there
-long : (n : ℕ) (due : Bool) (fs : List (List ℕ)) → Long n (numbersOf n due fs)
-unfolding Long numbersOf whole-only
-long zero false [] = refl
-long zero false (f ∷ fs) = tt
-long zero true [] = tt
-long zero true (f ∷ []) = subst (Long 0) (numbers-one f) (go (wholeOf f))
+number-right : (s : List ℕ) (x : Float) → numberOf s ≡ some x → F64 x
+unfolding numberOf
+number-right s x e = go (eqb (length s) 16 && digits 16 s) e
   where
-    go : (o : Option ℕ) → Long 0 (whole-only o)
+    go : (t : Bool) → cond t (some (ofBits binary64 (value 16 0 s))) none ≡ some x → F64 x
+    go true q = let p : ofBits binary64 (value 16 0 s) ≡ x = cc in subst F64 p (ofBits-fits binary64 (value 16 0 s))
+    go false q = absurd (let z : _≡_ {A = ℕ} 0 1 = cc in omega arith)
+
+right-more : (n : ℕ) (x : Float) (o : Option Numbers) → F64 x → Right n o → Right (suc n) (more x o)
+unfolding more
+right-more n x none f h = h
+right-more n x (some m) f h = (ap suc (h .0), (f, h .1))
+
+pub numbers-right : (n : ℕ) (due : Bool) (fs : List (List ℕ)) → Right n (numbersOf n due fs)
+unfolding numbersOf whole-only
+numbers-right zero false [] = (refl, tt)
+numbers-right zero false (f ∷ fs) = tt
+numbers-right zero true [] = tt
+numbers-right zero true (f ∷ []) = subst (Right 0) (numbers-one f) (go (wholeOf f))
+  where
+    go : (o : Option ℕ) → Right 0 (whole-only o)
     go none = tt
-    go (some n) = refl
-long zero true (f ∷ g ∷ fs) = tt
-long (suc n) due [] = tt
-long (suc n) due (f ∷ fs) = go (numberOf f) refl (long n due fs)
+    go (some n) = (refl, tt)
+numbers-right zero true (f ∷ g ∷ fs) = tt
+numbers-right (suc n) due [] = tt
+numbers-right (suc n) due (f ∷ fs) = go (numberOf f) refl (numbers-right n due fs)
   where
-    go : (o : Option Float) → numberOf f ≡ o → Long n (numbersOf n due fs) → Long (suc n) (numbersOf (suc n) due (f ∷ fs))
-    go none e h = subst (Long (suc n)) (numbers-bad n due f fs e) tt
-    go (some x) e h = subst (Long (suc n)) (numbers-step n due f fs x e) (long-more n x (numbersOf n due fs) h)
+    go : (o : Option Float) → numberOf f ≡ o → Right n (numbersOf n due fs) → Right (suc n) (numbersOf (suc n) due (f ∷ fs))
+    go none e h = subst (Right (suc n)) (numbers-bad n due f fs e) tt
+    go (some x) e h = subst (Right (suc n)) (numbers-step n due f fs x e) (right-more n x (numbersOf n due fs) (number-right f x e) h)
 
-reads-value : (n : ℕ) (o : Option Numbers) (k : ℕ) (before after : List Float) → Long n o → n ≤ length before → Reads o (whole.Value k) before after → o ≡ some (record { floats = take n after; whole = k })
-unfolding Long Reads
+reads-value : (n : ℕ) (o : Option Numbers) (k : ℕ) (before after : List Float) → Right n o → n ≤ length before → Reads o (whole.Value k) before after → o ≡ some (record { floats = take n after; whole = k })
+unfolding Reads
 reads-value n none k before after l h g = absurd (let z : _≡_ {A = ℕ} 0 1 = cc in omega arith)
 reads-value n (some m) k before after l h g =
     let p : k ≡ m .whole = (let q = g .0 in cc) in
-    let q : take n after ≡ m .floats = ap (take n) (g .1) ∙ ap (λ (j : ℕ). take j (sets before 0 (m .floats))) (sym l) ∙ kept-front before (m .floats) (omega arith) in
+    let q : take n after ≡ m .floats = ap (take n) (g .1) ∙ ap (λ (j : ℕ). take j (sets before 0 (m .floats))) (sym (l .0)) ∙ kept-front before (m .floats) (omega (arith, l .0, h)) in
     ap₂ (λ (f : List Float) (j : ℕ). some (record { floats = f; whole = j })) (sym q) (sym p)
 
 reads-not : (o : Option Numbers) (before after : List Float) → Reads o whole.Not before after → o ≡ none
@@ -387,7 +398,7 @@ reads-not (some m) before after g = absurd (let q = g .0 in let z : _≡_ {A = �
 -- the numbers that the code has read, and that it has read none
 pub numbers-value : (n : ℕ) (due : Bool) (fs : List (List ℕ)) (k : ℕ) (before after : List Float) → n ≤ length before → Reads (numbersOf n due fs) (whole.Value k) before after
     → numbersOf n due fs ≡ some (record { floats = take n after; whole = k })
-numbers-value n due fs k before after h g = reads-value n (numbersOf n due fs) k before after (long n due fs) h g
+numbers-value n due fs k before after h g = reads-value n (numbersOf n due fs) k before after (numbers-right n due fs) h g
 
 pub numbers-not : (n : ℕ) (due : Bool) (fs : List (List ℕ)) (before after : List Float) → Reads (numbersOf n due fs) whole.Not before after → numbersOf n due fs ≡ none
 numbers-not n due fs before after g = reads-not (numbersOf n due fs) before after g

@@ -1,20 +1,20 @@
 -- What a program does for a record, from what the calls of a tree promise. Over any kind of tree.
-use Prim.Native.Nat.{ℕ, _+_, _*_, _≤_, _<_, min}
+use Prim.Native.Nat.{ℕ, _+_, _*_, _≤_, _<_}
 use mathlib.Core.Path.{_≡_, refl, sym, ap, _∙_, subst}
 use mathlib.Core.Bool.{Bool, true, false, _||_, or-false, or-true}
 use mathlib.Core.List.{List, [], _++_}
 use mathlib.Core.Option.{Option, none, some}
 use native.Mathlib.Nat.{le-trans, mul-le-mul-left}
 use native.Mathlib.Omega.{arith}
-use lib.Dec.{T, eqb, leb}
+use lib.Dec.{T, eqb}
 use lib.ListN.{length, getD}
 use lib.Ieee.{Float}
 use Rattle.model.specs.Boxes.{Side, acceptable}
 use Rattle.model.specs.Soundness.{All}
 use Rattle.model.specs.Trees.{Point}
 use Rattle.model.specs.Trees as trees
-use Rattle.model.specs.Searches.{box, nearest, radius}
-use Rattle.model.specs.Calls.{Ask, Box, Call, Clear, Contains, Create, Delete, Insert, IsEmpty, Kind, Len, Nearest, Outcome, Plan, Query, Radius, State, ask, badBoundary, broken, call, create, empty, give, misfit, noCapacity, noRoom, noTree, number, onBroken, refuse, searchCall, step, tree}
+use Rattle.model.specs.Calls.{Ask, Box, Call, Clear, Contains, Create, Delete, Insert, Kind, Len, Nearest, Outcome, Plan, Query, Radius, State, badBoundary, broken, call, create, empty, give, misfit, noCapacity, noTree, number, onBroken, refuse, step, tree}
+use Rattle.model.proofs.After.{ask-same}
 use Rattle.model.proofs.Calls.{delete-ends, insert-ends}
 use Rattle.model.proofs.Counts.{cond-same}
 use Rattle.trees.specs.Pieces.{AsksHeld, Does, DoesHeld, Pieces, Says, SearchesHeld, roomFor}
@@ -41,18 +41,9 @@ pub clear-stays : (k : Kind) → Stays k Clear
 unfolding step call held?
 clear-stays k a = refl
 
-search-state : (a : Plan) (n : ℕ) (ps : List Point) → searchCall a n ps .state ≡ tree a
-unfolding searchCall
-search-state a n ps = cond-same (λ (o : Outcome). o .state ≡ tree a) (leb (length ps) n) _ (refuse noRoom (tree a)) (λ h. refl) (λ h. refl)
-
 pub ask-state : (k : Kind) (a : Plan) (q : Query) → step k (tree a) (Ask q) .state ≡ tree a
-unfolding step call ask
-ask-state k a (Contains p) = refl
-ask-state k a Len = refl
-ask-state k a IsEmpty = refl
-ask-state k a (Radius c r n) = search-state a n (radius c r 32 (a .root))
-ask-state k a (Box q n) = search-state a n (box q 32 (a .root))
-ask-state k a (Nearest c m n) = search-state a n (nearest (min m 512) c 32 (a .boundary) (a .root))
+unfolding step call
+ask-state k a q = ask-same a q
 
 -- ---- what is heard, with and without a tree
 heard-tree : (k : Kind) (a : Plan) (c : Call) → heard k (tree a) c ≡ step k (tree a) c

@@ -8,3 +8,4 @@ pub mod Runs
 pub mod Answers
 pub mod Feeds
 pub mod Starts
+pub mod History
