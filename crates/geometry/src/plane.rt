@@ -72,7 +72,7 @@ impl Rectangle {
         }
     }
 
-    // The axis distances, squared and added: no more than the squared distance of any finite point inside.
+    // The axis distances, squared and added: no more than the squared distance of any finite point inside, for a centre without NaN.
     pub fn min_distance_sq(self, point: Point2D) -> f64
         ensures { λ r. ⌜ r ≡ nodeDistance (sides2 self) (place2 point) ⌝ }
     {

@@ -82,7 +82,7 @@ impl Cube {
         }
     }
 
-    // The axis distances, squared and added: no more than the squared distance of any finite point inside.
+    // The axis distances, squared and added: no more than the squared distance of any finite point inside, for a centre without NaN.
     pub fn min_distance_sq(self, point: Point3D) -> f64
         ensures { λ r. ⌜ r ≡ nodeDistance (sides3 self) (place3 point) ⌝ }
     {
