@@ -45,6 +45,14 @@ fn tell_unread(got: isize) {
     }
 }
 
+// Writes answers, unless some before them were lost: there is no gap in what is written.
+fn hand_on(written: bool, answers: &[u8]) -> bool {
+    if !written {
+        return false;
+    }
+    io::write_all(1, answers)
+}
+
 // Answers the lines of the text and writes the answers, till no line feed is left.
 fn drain(
     text: &[u8],
@@ -69,8 +77,7 @@ fn drain(
     while why > 0 {
         let s = feed(&text[at..], first, has, head, nodes, links, points, out);
         let to = s.to;
-        let done = io::write_all(1, &out[0..to]);
-        written = written & done;
+        written = hand_on(written, &out[0..to]);
         at += s.read;
         first = s.start;
         has = s.held;

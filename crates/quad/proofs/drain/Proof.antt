@@ -34,17 +34,17 @@ part-feed-end c = search needs
 feed-requires : tie.Need-feed-requires Inv-loop μ-loop
 feed-requires c κs = search needs
 
-sub-write-all : tie.Need-sub-write-all Inv-loop μ-loop
-sub-write-all c = search needs
+sub-hand-on : tie.Need-sub-hand-on Inv-loop μ-loop
+sub-hand-on c = search needs
 
-part-write-all-start : tie.Need-part-write-all-start Inv-loop μ-loop
-part-write-all-start c = search needs
+part-hand-on-start : tie.Need-part-hand-on-start Inv-loop μ-loop
+part-hand-on-start c = search needs
 
-part-write-all-end : tie.Need-part-write-all-end Inv-loop μ-loop
-part-write-all-end c = search needs
+part-hand-on-end : tie.Need-part-hand-on-end Inv-loop μ-loop
+part-hand-on-end c = search needs
 
-write-all-requires : tie.Need-write-all-requires Inv-loop μ-loop
-write-all-requires c κs = search needs
+hand-on-requires : tie.Need-hand-on-requires Inv-loop μ-loop
+hand-on-requires c κs = search needs
 
 add-at : tie.Need-add-at Inv-loop μ-loop
 add-at c = record { fits = omega (arith, inside (now (c .before .before .before .before .before .before .before .before .before .before .before .before .before .before .before .before .before .before .before .before .before .before .before .before .before .before .before .before .before .args .text)) (c .before .before .before .before .before .before .before .before .before .before .before .before .before .before .before .before .before .before .before .before .before .before .loop .at) (c .before .before .before .before .before .before .before .before .before .before .before .before .before .before .feed .result .read) (c .before .before .before .before .before .before .before .before .before .before .before .before .before .before .before .before .before .before .before .before .before .before .loop .inv .0 .within) (c .before .before .before .before .before .before .before .before .before .before .before .before .before .before .feed .ensures .1 .0 .0), c .before .before .before .before .before .before .before .before .before .before .before .before .before .before .before .before .before .before .before .before .before .before .before .before .before .before .before .before .before .good .0) }
@@ -87,10 +87,10 @@ drain-spec =
     part-feed-start
     part-feed-end
     feed-requires
-    sub-write-all
-    part-write-all-start
-    part-write-all-end
-    write-all-requires
+    sub-hand-on
+    part-hand-on-start
+    part-hand-on-end
+    hand-on-requires
     add-at
     loop-less
     loop-again
