@@ -9,3 +9,4 @@ pub mod Answers
 pub mod Feeds
 pub mod Starts
 pub mod History
+pub mod Unique
