@@ -1,0 +1,2 @@
+-- What is proved of the code that both trees share.
+pub mod Depths

@@ -1,0 +1,28 @@
+-- The two trees as one: `deep` says whether places have a z, and boxes a depth. Definitions only.
+use mathlib.Core.Bool.{Bool, true, false}
+use mathlib.Core.List.{List, [], _∷_}
+use lib.Ieee.{Float}
+use Rattle.model.specs.Boxes.{Side}
+use Rattle.model.specs.Calls.{Kind, octree, quadtree}
+use Rattle.geometry.specs.Sides.{side}
+use Rattle.geometry.specs.declared.space.Point3D.{Point3D}
+use Rattle.geometry.specs.declared.space.Cube.{Cube}
+
+abbrev pub kind : Bool → Kind
+kind true = octree
+kind false = quadtree
+
+abbrev pub coords : Bool → (x y z : Float) → List Float
+coords true x y z = x ∷ y ∷ z ∷ []
+coords false x y z = x ∷ y ∷ []
+
+abbrev pub region : Bool → (x y z width height depth : Float) → List Side
+region true x y z width height depth = side x width ∷ side y height ∷ side z depth ∷ []
+region false x y z width height depth = side x width ∷ side y height ∷ []
+
+-- the code's places and boxes; in the plane z and depth are not looked at
+abbrev pub place : Bool → Point3D → List Float
+place deep p = coords deep (p .x) (p .y) (p .z)
+
+abbrev pub sides : Bool → Cube → List Side
+sides deep c = region deep (c .x) (c .y) (c .z) (c .width) (c .height) (c .depth)

@@ -1,0 +1,2 @@
+-- What the code that both trees share means. Definitions only.
+pub mod Depths

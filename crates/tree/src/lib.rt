@@ -1,0 +1,2 @@
+// What both trees share: their functions once, for places with a z and without.
+pub mod region;
