@@ -1,2 +1,8 @@
 // What both trees share: their functions once, for places with a z and without.
+pub mod descent;
+pub mod head;
+pub mod insert;
+pub mod nearest;
+pub mod place;
 pub mod region;
+pub mod search;

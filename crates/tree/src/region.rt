@@ -4,12 +4,14 @@ ghost use mathlib.Core.Bool.{false};
 ghost use Prim.Native.Nat.{_<_};
 ghost use Rattle.model.specs.Boxes.{inside, meets, samePlace, route, part, squared, nodeDistance};
 ghost use Rattle.model.specs.Calls.{ways};
+ghost use Rattle.pool.specs.Writes.{kid};
 ghost use Rattle.geometry.specs.Sides.{place2, sides2};
 ghost use Rattle.tree.specs.Depths.{kind, place, sides};
 use geometry::plane::Point2D;
 use geometry::plane::Rectangle;
 use geometry::space::Cube;
 use geometry::space::Point3D;
+use pool::child;
 
 pub fn axes(deep: bool) -> u8
     ensures { λ r. ⌜ r ≡ kind deep .axes ⌝ }
@@ -21,6 +23,14 @@ pub fn ways(deep: bool) -> u8
     ensures { λ r. ⌜ r ≡ ways (kind deep) ⌝ }
 {
     if deep { 8 } else { 4 }
+}
+
+// The node of child c of group k.
+pub fn kid(deep: bool, k: u32, c: u8) -> usize
+    ensures { λ r. ⌜ r ≡ kid (ways (kind deep)) k c ⌝ }
+    ensures near { λ r. ⌜ r < 1099511627776 ⌝ }
+{
+    child(ways(deep), k, c)
 }
 
 // The place without its z.
@@ -104,7 +114,7 @@ pub fn child_index(deep: bool, b: Cube, p: Point3D) -> u8
 }
 
 // The box of child c.
-pub fn child(deep: bool, b: Cube, c: u8) -> Cube
+pub fn part(deep: bool, b: Cube, c: u8) -> Cube
     ensures { λ r. ⌜ sides deep r ≡ part (sides deep b) c ⌝ }
 {
     if deep {
