@@ -1,2 +1,3 @@
 -- What is proved of the code that both trees share.
 pub mod Depths
+pub mod Numbers

@@ -1,0 +1,54 @@
+use mathlib.Core.Path.{refl, sym, subst}
+use lib.Dec.{T}
+use Rattle.trees.specs.Pieces.{pieces, roomFor}
+use Rattle.trees.proofs.Queries.{nearest-given, nearest-nothing}
+use Rattle.tree.specs.Depths.{coords, kind}
+use Rattle.tree.proofs.Numbers.{coords-length, coords-numbers}
+use borrow.Author.Needs.{needs}
+use Rattle.tree_queries.proofs.search.knn_search.Statement.{statement}
+use Rattle.tree_queries.proofs.search.knn_search.Tie as tie
+
+returns : tie.Need-returns
+returns c = nearest-nothing (kind (c .before .before .before .before .before .before .before .args .deep)) (pieces ((c .before .before .before .before .before .before .before .args .head .now)) ((c .before .before .before .before .before .before .before .args .nodes .now)) ((c .before .before .before .before .before .before .before .args .links .now)) ((c .before .before .before .before .before .before .before .args .points .now))) ((c .before .before .before .before .before .before .before .args .coords .now)) ((c .before .before .before .before .before .before .before .args .payloads .now)) (roomFor (kind (c .before .before .before .before .before .before .before .args .deep) .axes) ((c .before .before .before .before .before .before .before .args .coords .now)) ((c .before .before .before .before .before .before .before .args .payloads .now))) (coords (c .before .before .before .before .before .before .before .args .deep) (c .before .before .before .before .before .before .before .args .x) (c .before .before .before .before .before .before .before .args .y) (c .before .before .before .before .before .before .before .args .z)) _ (c .if1 .taken)
+
+boundary-requires : tie.Need-boundary-requires
+boundary-requires c κs = search needs
+
+slice-aggregate-knn-search-helper : tie.Need-slice-aggregate-knn-search-helper
+slice-aggregate-knn-search-helper c = search needs
+
+slice-aggregate-knn-search-helper-2 : tie.Need-slice-aggregate-knn-search-helper-2
+slice-aggregate-knn-search-helper-2 c = search needs
+
+knn-search-helper-requires : tie.Need-knn-search-helper-requires
+knn-search-helper-requires c κs = search needs
+
+slice-aggregate-hand-over : tie.Need-slice-aggregate-hand-over
+slice-aggregate-hand-over c = search needs
+
+hand-over-requires : tie.Need-hand-over-requires
+hand-over-requires c κs = search needs
+
+same-length : tie.Need-same-length
+same-length c = search needs
+
+same-length-2 : tie.Need-same-length-2
+same-length-2 c = search needs
+
+returns-2 : tie.Need-returns-2
+returns-2 c = nearest-given (kind (c .before .before .before .before .before .before .before .before .before .before .before .before .before .before .before .before .before .before .before .before .before .args .deep)) (pieces ((c .before .before .before .before .before .before .before .before .before .before .before .before .before .before .before .before .before .before .before .before .before .args .head .now)) ((c .before .before .before .before .before .before .before .before .before .before .before .before .before .before .before .before .before .before .before .before .before .args .nodes .now)) ((c .before .before .before .before .before .before .before .before .before .before .before .before .before .before .before .before .before .before .before .before .before .args .links .now)) ((c .before .before .before .before .before .before .before .before .before .before .before .before .before .before .before .before .before .before .before .before .before .args .points .now))) ((c .before .before .before .before .before .before .before .before .before .before .before .before .before .before .before .before .before .before .before .before .before .args .coords .now)) ((c .before .before .before .before .before .before .before .before .before .before .before .before .before .before .before .before .before .before .before .before .before .args .payloads .now)) (roomFor (kind (c .before .before .before .before .before .before .before .before .before .before .before .before .before .before .before .before .before .before .before .before .before .args .deep) .axes) ((c .before .before .before .before .before .before .before .before .before .before .before .before .before .before .before .before .before .before .before .before .before .args .coords .now)) ((c .before .before .before .before .before .before .before .before .before .before .before .before .before .before .before .before .before .before .before .before .before .args .payloads .now))) _ _ _ _ (coords (c .before .before .before .before .before .before .before .before .before .before .before .before .before .before .before .before .before .before .before .before .before .args .deep) (c .before .before .before .before .before .before .before .before .before .before .before .before .before .before .before .before .before .before .before .before .before .args .x) (c .before .before .before .before .before .before .before .before .before .before .before .before .before .before .before .before .before .before .before .before .before .args .y) (c .before .before .before .before .before .before .before .before .before .before .before .before .before .before .before .before .before .before .before .before .before .args .z)) _ _ _ _ _ _ _ (coords-numbers (c .before .before .before .before .before .before .before .before .before .before .before .before .before .before .before .before .before .before .before .before .before .args .deep) _ _ _ (subst T (sym (c .before .before .before .before .before .before .before .before .before .before .before .before .before .before .before .before .before .before .before .before .before .good .1 .1 .1 .1 .1 .0 .1)) tt) (subst T (sym (c .before .before .before .before .before .before .before .before .before .before .before .before .before .before .before .before .before .before .before .before .before .good .1 .1 .1 .1 .1 .1 .0 .1)) tt) (subst T (sym (c .before .before .before .before .before .before .before .before .before .before .before .before .before .before .before .before .before .before .before .before .before .good .1 .1 .1 .1 .1 .1 .1 .0 .1)) tt)) (coords-length (c .before .before .before .before .before .before .before .before .before .before .before .before .before .before .before .before .before .before .before .before .before .args .deep) _ _ _) (c .before .before .before .before .before .before .before .before .before .before .before .before .before .boundary .ensures) (c .before .before .before .before .before .before .before .before .before .before .before .before .before .before .if1 .left) refl refl ((c .before .before .before .before .before .before .before .before .before .before .knn-search-helper .kept .1 .1 .1 .1 .1 .1 .1 .1 .1 .0)) ((c .before .before .before .before .before .before .before .before .before .before .knn-search-helper .kept .1 .1 .1 .1 .1 .1 .1 .1 .1 .1 .0)) (c .before .before .before .before .before .before .before .before .before .before .knn-search-helper .ensures) (c .before .before .before .before .hand-over .ensures)
+
+pub knn-search-spec : {M : Type 1} → statement M
+knn-search-spec =
+    tie.close
+    (tie.spec
+    returns
+    boundary-requires
+    slice-aggregate-knn-search-helper
+    slice-aggregate-knn-search-helper-2
+    knn-search-helper-requires
+    slice-aggregate-hand-over
+    hand-over-requires
+    same-length
+    same-length-2
+    returns-2)
