@@ -17,11 +17,14 @@ use Rattle.geometry.specs.declared.space.Point3D.{Point3D}
 use Rattle.geometry.specs.declared.space.Cube.{Cube}
 use Rattle.knn.specs.Candidates.{at, dists, items, numbered}
 use Rattle.pool.specs.Writes.{Pool}
+use Rattle.model.proofs.Calls.{Regular, octree-regular, quadtree-regular}
+use Rattle.trees.proofs.Creates.{Named}
+use Rattle.trees.proofs.Held.{Roomy}
 use Rattle.trees.proofs.Descents.{small-route}
 use Rattle.trees.proofs.Seeks.{nears}
 use Rattle.trees.proofs.Turns.{Parts}
 use Rattle.trees.proofs.Tables.{order-at, order-below, order-length}
-use Rattle.tree.specs.Depths.{kind, place, sides}
+use Rattle.tree.specs.Depths.{groups, kind, place, sides}
 
 -- a child's number, in as few bits as there are axes
 pub routed : (deep : Bool) (b : Cube) (p : Point3D) (r : ℕ) → r ≡ route (sides deep b) (place deep p) → (r % ways (kind deep) ≡ route (sides deep b) (place deep p)) × (r % ways (kind deep) < ways (kind deep))
@@ -36,6 +39,19 @@ all-ways false b = refl
 pub most-ways : (deep : Bool) → ways (kind deep) ≤ 8
 most-ways true = omega arith
 most-ways false = omega arith
+
+-- ---- what the laws of trees ask of a kind
+pub regular : (deep : Bool) → Regular (kind deep)
+regular true = octree-regular
+regular false = quadtree-regular
+
+pub roomy : (deep : Bool) → Roomy (kind deep) (groups deep)
+roomy true = refl
+roomy false = refl
+
+pub named : (deep : Bool) → Named (kind deep) (groups deep)
+named true = record { roomy = refl; few = omega arith; low = omega arith }
+named false = record { roomy = refl; few = omega arith; low = omega arith }
 
 -- the number of ways as the code has it
 pub parts-as : (w w' : ℕ) (pt : ℕ → Point) (b : List Side) (s r : Pool) (i g : ℕ) → w ≡ w' → Parts w pt b s r i g → Parts w' pt b s r i g

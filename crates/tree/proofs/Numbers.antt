@@ -1,6 +1,7 @@
 -- The numbers of places and boxes of either kind are those of f64, since the code has no others.
 use mathlib.Core.Path.{_≡_, refl}
 use mathlib.Core.Bool.{Bool, true, false}
+use mathlib.Core.List.{zipWith}
 use lib.Ieee.{Float}
 use lib.ListN.{length}
 use Rattle.floats.proofs.Theorems.{F64}
@@ -19,3 +20,9 @@ region-numbers false x y z width height depth fx fy fz fw fh fd = ((fx, fw), ((f
 pub coords-length : (deep : Bool) (x y z : Float) → length (coords deep x y z) ≡ kind deep .axes
 coords-length true x y z = refl
 coords-length false x y z = refl
+
+-- the sides of a box from its corners and its extents
+pub region-zip : (deep : Bool) (x y z width height depth : Float) → zipWith (λ c e. record { corner = c; extent = e }) (coords deep x y z) (coords deep width height depth) ≡ region deep x y z width height depth
+unfolding zipWith
+region-zip true x y z width height depth = refl
+region-zip false x y z width height depth = refl

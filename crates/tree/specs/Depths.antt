@@ -1,6 +1,7 @@
 -- The two trees as one: `deep` says whether places have a z, and boxes a depth. Definitions only.
 use mathlib.Core.Bool.{Bool, true, false}
 use mathlib.Core.List.{List, [], _∷_}
+use Prim.Native.Nat.{ℕ}
 use lib.Ieee.{Float}
 use Rattle.model.specs.Boxes.{Side}
 use Rattle.model.specs.Calls.{Kind, octree, quadtree}
@@ -11,6 +12,11 @@ use Rattle.geometry.specs.declared.space.Cube.{Cube}
 abbrev pub kind : Bool → Kind
 kind true = octree
 kind false = quadtree
+
+-- "quadtree at most 341 (1 + 4·85), octree at most 321 (1 + 8·40), root counted": how many groups there are
+abbrev pub groups : Bool → ℕ
+groups true = 40
+groups false = 85
 
 abbrev pub coords : Bool → (x y z : Float) → List Float
 coords true x y z = x ∷ y ∷ z ∷ []

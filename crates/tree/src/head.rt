@@ -1,10 +1,12 @@
-// The boundary in the head of a tree.
+// What the head of a tree says, and whether pieces have the lengths of one.
 ghost use mathlib.Core.Path.{_≡_};
 ghost use Rattle.words.specs.Words.{words};
 ghost use Rattle.model.specs.Boxes.{acceptable};
 ghost use Rattle.tree.specs.Depths.{kind, sides};
-ghost use Rattle.trees.specs.Pieces.{boundaryOf};
+ghost use Rattle.trees.specs.Pieces.{Decides, Fits, boundaryOf, capacityOf, pieces};
+use crate::region::axes;
 use geometry::space::Cube;
+use pieces;
 use sound::accepts_side;
 use words::get_float;
 
@@ -43,5 +45,22 @@ pub fn accepts(deep: bool, b: Cube) -> bool
         x & (y & accepts_side(b.z, b.depth))
     } else {
         x & y
+    }
+}
+
+pub fn capacity(deep: bool, head: &[u8]) -> u32
+    ensures { λ r. ⌜ r ≡ capacityOf (kind deep .axes) (words (now (head .entry))) ⌝ }
+{
+    pieces::capacity(axes(deep), head)
+}
+
+// Whether pieces have the lengths of a tree.
+pub fn fits(deep: bool, head: &[u8], nodes: &[u8], links: &[u8], points: &[u8]) -> bool
+    ensures { λ r. ⌜ Decides r (Fits (kind deep) (pieces (now (head .entry)) (now (nodes .entry)) (now (links .entry)) (now (points .entry)))) ⌝ }
+{
+    if deep {
+        pieces::fits(3, 8, 40, head, nodes, links, points)
+    } else {
+        pieces::fits(2, 4, 85, head, nodes, links, points)
     }
 }
