@@ -33,7 +33,7 @@ use Rattle.trees.specs.Points.{pointAt}
 use Rattle.trees.specs.Pieces.{Pieces, Fits, boundaryOf, capacityOf, planOf, Holds, Sane, Decides}
 use Rattle.trees.proofs.Areas.{Bound, F64Bound, lies, narrowed, whole, narrowed-lies, narrowed-held, narrowed-length, whole-lies, whole-held, whole-length}
 use Rattle.trees.proofs.Held.{boundary-f64, boundary-length, links-long, nodes-long, point-regular}
-use Rattle.trees.proofs.Heads.{both, Measured, measured-as}
+use Rattle.trees.proofs.Heads.{both}
 use Rattle.trees.proofs.Checks.{Tested, Proper, Found, Checks, Sized}
 use Rattle.trees.proofs.Marks.{Linked, Listed, Walks, AllMet, always, Frees, FreedPlaces, FreedGroups, Rest}
 use Rattle.trees.proofs.Tests.{fails, no-true}
@@ -411,11 +411,8 @@ module _ (k : Kind) (s : Pieces) (rows : ℕ) (er : k .most ≡ suc (ways k * ro
   not-sane : (Sane k s → ⊥) → Decides false (Sane k s)
   not-sane f = record { sure = λ t. no-true t; only = λ q. absurd (f q) }
 
-  pub sound-lengths : (r : Bool) → Measured (k .axes) (ways k) rows s r → not r ≡ true → Decides false (Sane k s)
-  sound-lengths r m e = not-sane (λ q. fails (measured-as k rows s r er m .only (q .fits)) (not-true r e))
-
-  pub sound-fits : (r : Bool) → Measured (k .axes) (ways k) rows s r → not r ≡ false → Fits k s
-  sound-fits r m e = measured-as k rows s r er m .sure (not-false r e)
+  pub sound-lengths : (r : Bool) → Decides r (Fits k s) → not r ≡ true → Decides false (Sane k s)
+  sound-lengths r d e = not-sane (λ q. fails (d .only (q .fits)) (not-true r e))
 
   pub sound-boundary : (b : List Side) → b ≡ bounds → acceptable b ≡ false → Decides false (Sane k s)
   sound-boundary b eb e0 = let e : acceptable bounds ≡ false = sym (ap acceptable eb) ∙ e0 in not-sane (λ q. fails (is-true (acceptable bounds) (subst (λ (a : Plan). T (acceptable (a .boundary))) (q .holds .plan) (q .holds .sound .boundary .0))) e)

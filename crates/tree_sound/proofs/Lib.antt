@@ -1,0 +1,2 @@
+-- What is proved of the soundness test.
+pub mod Starts
