@@ -1,4 +1,4 @@
-/* An octree over points in space, in memory that the caller lends. Link libhost.a. trees.h says how slices
+/* An octree over points in space, in memory that the caller lends. Link liboctree.a. trees.h says how slices
  * are lent, what holds for every call, and what the reply numbers mean.
  *
  *     head     56 bytes   the boundary and the capacity

@@ -1,4 +1,4 @@
-/* A quadtree over points in the plane, in memory that the caller lends. Link libhost.a. trees.h says how slices
+/* A quadtree over points in the plane, in memory that the caller lends. Link libquadtree.a. trees.h says how slices
  * are lent, what holds for every call, and what the reply numbers mean.
  *
  *     head     40 bytes   the boundary and the capacity

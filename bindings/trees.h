@@ -1,4 +1,4 @@
-/* What quadtree.h and octree.h share: how a tree is lent to a call, and the reply numbers. Link libhost.a.
+/* What quadtree.h and octree.h share: how a tree is lent to a call, and the reply numbers.
  *
  * A tree lies in four pieces of bytes that the caller owns and moves as it likes:
  *

@@ -3,17 +3,17 @@ ghost use mathlib.Core.List.{[], _∷_};
 ghost use Rattle.geometry.specs.Sides.{side};
 ghost use Rattle.model.specs.Calls.{octree, Insert, Delete, Contains, Radius, Box, Nearest};
 ghost use Rattle.trees.specs.Pieces.{pieces, Sane, Decides, DoesHeld, AsksHeld, SearchesHeld, roomFor};
-use octree_changes::delete;
-use octree_changes::insert;
-use octree_queries::ask;
-use octree_queries::search;
-use octree_sound::sound;
+use tree_changes::delete;
+use tree_changes::insert;
+use tree_queries::ask;
+use tree_queries::search;
+use tree_sound::sound;
 
 #[no_mangle]
 pub extern "C" fn probe_octree_sound(head: &[u8], nodes: &[u8], links: &[u8], points: &[u8]) -> bool
     ensures { λ r. ⌜ Decides r (Sane octree (pieces (now (head .entry)) (now (nodes .entry)) (now (links .entry)) (now (points .entry)))) ⌝ }
 {
-    sound(head, nodes, links, points)
+    sound(true, head, nodes, links, points)
 }
 
 #[no_mangle]
@@ -29,7 +29,7 @@ pub extern "C" fn probe_octree_insert(
 ) -> u32
     ensures { λ r. ⌜ DoesHeld octree (Insert (record { at = x ∷ y ∷ z ∷ []; payload = mark })) (pieces (now (head .entry)) (now (nodes .entry)) (now (links .entry)) (now (points .entry))) (pieces (now (head .entry)) (now (nodes .exit)) (now (links .exit)) (now (points .exit))) r 0 ⌝ }
 {
-    insert::insert(head, nodes, links, points, x, y, z, mark)
+    insert::insert(true, head, nodes, links, points, x, y, z, mark)
 }
 
 #[no_mangle]
@@ -45,7 +45,7 @@ pub extern "C" fn probe_octree_delete(
 ) -> u32
     ensures { λ r. ⌜ DoesHeld octree (Delete (record { at = x ∷ y ∷ z ∷ []; payload = mark })) (pieces (now (head .entry)) (now (nodes .entry)) (now (links .entry)) (now (points .entry))) (pieces (now (head .entry)) (now (nodes .exit)) (now (links .exit)) (now (points .entry))) r 0 ⌝ }
 {
-    delete::delete(head, nodes, links, points, x, y, z, mark)
+    delete::delete(true, head, nodes, links, points, x, y, z, mark)
 }
 
 #[no_mangle]
@@ -62,7 +62,7 @@ pub extern "C" fn probe_octree_contains(
 ) -> u32
     ensures { λ r. ⌜ AsksHeld octree (Contains (record { at = x ∷ y ∷ z ∷ []; payload = mark })) (pieces (now (head .entry)) (now (nodes .entry)) (now (links .entry)) (now (points .entry))) r (now (yes .exit)) ⌝ }
 {
-    *yes = ask::contains(head, nodes, links, points, x, y, z, mark);
+    *yes = ask::contains(true, head, nodes, links, points, x, y, z, mark);
     0
 }
 
@@ -83,6 +83,7 @@ pub extern "C" fn probe_octree_range_search(
     ensures { λ r. ⌜ SearchesHeld octree (Radius (x ∷ y ∷ z ∷ []) radius (roomFor 3 (now (coords .entry)) (now (payloads .entry)))) (pieces (now (head .entry)) (now (nodes .entry)) (now (links .entry)) (now (points .entry))) (now (coords .entry)) (now (payloads .entry)) (now (coords .exit)) (now (payloads .exit)) r (now (count .exit)) ⌝ }
 {
     let told = search::range_search(
+        true,
         head,
         nodes,
         links,
@@ -117,6 +118,7 @@ pub extern "C" fn probe_octree_range_search_bbox(
     ensures { λ r. ⌜ SearchesHeld octree (Box (side x width ∷ side y height ∷ side z depth ∷ []) (roomFor 3 (now (coords .entry)) (now (payloads .entry)))) (pieces (now (head .entry)) (now (nodes .entry)) (now (links .entry)) (now (points .entry))) (now (coords .entry)) (now (payloads .entry)) (now (coords .exit)) (now (payloads .exit)) r (now (count .exit)) ⌝ }
 {
     let told = search::range_search_bbox(
+        true,
         head,
         nodes,
         links,
@@ -150,7 +152,19 @@ pub extern "C" fn probe_octree_knn_search(
 ) -> u32
     ensures { λ r. ⌜ SearchesHeld octree (Nearest (x ∷ y ∷ z ∷ []) k (roomFor 3 (now (coords .entry)) (now (payloads .entry)))) (pieces (now (head .entry)) (now (nodes .entry)) (now (links .entry)) (now (points .entry))) (now (coords .entry)) (now (payloads .entry)) (now (coords .exit)) (now (payloads .exit)) r (now (count .exit)) ⌝ }
 {
-    let told = search::knn_search(head, nodes, links, points, x, y, z, k, coords, payloads);
+    let told = search::knn_search(
+        true,
+        head,
+        nodes,
+        links,
+        points,
+        x,
+        y,
+        z,
+        k,
+        coords,
+        payloads,
+    );
     *count = told.count;
     told.reply
 }

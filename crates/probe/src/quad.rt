@@ -3,11 +3,11 @@ ghost use mathlib.Core.List.{[], _∷_};
 ghost use Rattle.geometry.specs.Sides.{side};
 ghost use Rattle.model.specs.Calls.{quadtree, Insert, Delete, Contains, Radius, Box, Nearest};
 ghost use Rattle.trees.specs.Pieces.{pieces, Sane, Decides, DoesHeld, AsksHeld, SearchesHeld, roomFor};
-use quadtree_changes::delete;
-use quadtree_changes::insert;
-use quadtree_queries::ask;
-use quadtree_queries::search;
-use quadtree_sound::sound;
+use tree_changes::delete;
+use tree_changes::insert;
+use tree_queries::ask;
+use tree_queries::search;
+use tree_sound::sound;
 
 #[no_mangle]
 pub extern "C" fn probe_quadtree_sound(
@@ -18,7 +18,7 @@ pub extern "C" fn probe_quadtree_sound(
 ) -> bool
     ensures { λ r. ⌜ Decides r (Sane quadtree (pieces (now (head .entry)) (now (nodes .entry)) (now (links .entry)) (now (points .entry)))) ⌝ }
 {
-    sound(head, nodes, links, points)
+    sound(false, head, nodes, links, points)
 }
 
 #[no_mangle]
@@ -33,7 +33,7 @@ pub extern "C" fn probe_quadtree_insert(
 ) -> u32
     ensures { λ r. ⌜ DoesHeld quadtree (Insert (record { at = x ∷ y ∷ []; payload = mark })) (pieces (now (head .entry)) (now (nodes .entry)) (now (links .entry)) (now (points .entry))) (pieces (now (head .entry)) (now (nodes .exit)) (now (links .exit)) (now (points .exit))) r 0 ⌝ }
 {
-    insert::insert(head, nodes, links, points, x, y, mark)
+    insert::insert(false, head, nodes, links, points, x, y, 0.0, mark)
 }
 
 #[no_mangle]
@@ -48,7 +48,7 @@ pub extern "C" fn probe_quadtree_delete(
 ) -> u32
     ensures { λ r. ⌜ DoesHeld quadtree (Delete (record { at = x ∷ y ∷ []; payload = mark })) (pieces (now (head .entry)) (now (nodes .entry)) (now (links .entry)) (now (points .entry))) (pieces (now (head .entry)) (now (nodes .exit)) (now (links .exit)) (now (points .entry))) r 0 ⌝ }
 {
-    delete::delete(head, nodes, links, points, x, y, mark)
+    delete::delete(false, head, nodes, links, points, x, y, 0.0, mark)
 }
 
 #[no_mangle]
@@ -64,7 +64,7 @@ pub extern "C" fn probe_quadtree_contains(
 ) -> u32
     ensures { λ r. ⌜ AsksHeld quadtree (Contains (record { at = x ∷ y ∷ []; payload = mark })) (pieces (now (head .entry)) (now (nodes .entry)) (now (links .entry)) (now (points .entry))) r (now (yes .exit)) ⌝ }
 {
-    *yes = ask::contains(head, nodes, links, points, x, y, mark);
+    *yes = ask::contains(false, head, nodes, links, points, x, y, 0.0, mark);
     0
 }
 
@@ -83,7 +83,19 @@ pub extern "C" fn probe_quadtree_range_search(
 ) -> u32
     ensures { λ r. ⌜ SearchesHeld quadtree (Radius (x ∷ y ∷ []) radius (roomFor 2 (now (coords .entry)) (now (payloads .entry)))) (pieces (now (head .entry)) (now (nodes .entry)) (now (links .entry)) (now (points .entry))) (now (coords .entry)) (now (payloads .entry)) (now (coords .exit)) (now (payloads .exit)) r (now (count .exit)) ⌝ }
 {
-    let told = search::range_search(head, nodes, links, points, x, y, radius, coords, payloads);
+    let told = search::range_search(
+        false,
+        head,
+        nodes,
+        links,
+        points,
+        x,
+        y,
+        0.0,
+        radius,
+        coords,
+        payloads,
+    );
     *count = told.count;
     told.reply
 }
@@ -105,14 +117,17 @@ pub extern "C" fn probe_quadtree_range_search_bbox(
     ensures { λ r. ⌜ SearchesHeld quadtree (Box (side x width ∷ side y height ∷ []) (roomFor 2 (now (coords .entry)) (now (payloads .entry)))) (pieces (now (head .entry)) (now (nodes .entry)) (now (links .entry)) (now (points .entry))) (now (coords .entry)) (now (payloads .entry)) (now (coords .exit)) (now (payloads .exit)) r (now (count .exit)) ⌝ }
 {
     let told = search::range_search_bbox(
+        false,
         head,
         nodes,
         links,
         points,
         x,
         y,
+        0.0,
         width,
         height,
+        0.0,
         coords,
         payloads,
     );
@@ -135,7 +150,19 @@ pub extern "C" fn probe_quadtree_knn_search(
 ) -> u32
     ensures { λ r. ⌜ SearchesHeld quadtree (Nearest (x ∷ y ∷ []) k (roomFor 2 (now (coords .entry)) (now (payloads .entry)))) (pieces (now (head .entry)) (now (nodes .entry)) (now (links .entry)) (now (points .entry))) (now (coords .entry)) (now (payloads .entry)) (now (coords .exit)) (now (payloads .exit)) r (now (count .exit)) ⌝ }
 {
-    let told = search::knn_search(head, nodes, links, points, x, y, k, coords, payloads);
+    let told = search::knn_search(
+        false,
+        head,
+        nodes,
+        links,
+        points,
+        x,
+        y,
+        0.0,
+        k,
+        coords,
+        payloads,
+    );
     *count = told.count;
     told.reply
 }

@@ -1,2 +1,0 @@
--- What the quadtree's own types mean. Definitions only.
-pub mod Questions

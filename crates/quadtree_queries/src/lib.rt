@@ -1,3 +1,0 @@
-// The quadtree's queries, on pieces that hold a sound tree.
-pub mod ask;
-pub mod search;

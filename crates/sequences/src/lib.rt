@@ -1,0 +1,1 @@
+// What is true of any calls on a tree that meet the contracts: theorems only.
