@@ -1,12 +1,14 @@
-//! Links our static library: libprobe.a as `rt staticlib probe` leaves it, or in the folder that
-//! ORACLE_PROBE names.
+//! Links our static libraries: libprobe.a, libprobe_quad.a and libprobe_oct.a as `rt staticlib` leaves them, or from the folder
+//! that ORACLE_PROBE names. What is called of a tree stands in a library of its own, as in the host's libraries.
 
 fn main() {
     let here = std::env::var("CARGO_MANIFEST_DIR").expect("cargo names the package's folder");
     let usual = format!("{here}/../../target/staticlib");
     let folder = std::env::var("ORACLE_PROBE").unwrap_or(usual);
     println!("cargo:rerun-if-env-changed=ORACLE_PROBE");
-    println!("cargo:rerun-if-changed={folder}/libprobe.a");
     println!("cargo:rustc-link-search=native={folder}");
-    println!("cargo:rustc-link-lib=static=probe");
+    for library in ["probe", "probe_quad", "probe_oct"] {
+        println!("cargo:rerun-if-changed={folder}/lib{library}.a");
+        println!("cargo:rustc-link-lib=static={library}");
+    }
 }

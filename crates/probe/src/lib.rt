@@ -1,7 +1,4 @@
 // C entry points for the oracle's runs: each hands its numbers to the function that is compared with the Rust.
-pub mod oct;
-pub mod quad;
-
 ghost use mathlib.Core.Path.{_≡_};
 ghost use Prim.Native.Nat.{min};
 ghost use lib.ListN.{length, take};
