@@ -127,6 +127,11 @@ unfoldable pub holding : ℕ → State
 unfolding many
 holding n = tree (record { boundary = plan; capacity = 512; root = leaf (many n) })
 
+-- and the calls that store them
+unfoldable pub filling : ℕ → List Call
+unfolding many
+filling n = map Insert (many n)
+
 unfoldable pub full : State
 unfolding holding
 full = holding 512
