@@ -37,10 +37,10 @@ module _ (k : Kind) (s : Pieces) where
   says-some f = f misfit (λ fit. f broken (fit, λ a h. f (tree a) (fit, h)))
 
   -- numbers and lists of numbers that are equal in whatever state the pieces are in are equal
-  same-number : (m n : ℕ) → ((a : State) → Says k s a → m ≡ n) → m ≡ n
+  pub same-number : (m n : ℕ) → ((a : State) → Says k s a → m ≡ n) → m ≡ n
   same-number m n f = by-eq m n (λ e. e) (λ ne. absurd (says-some (λ a y. ne (f a y))))
 
-  same-list : (xs ys : List ℕ) → ((a : State) → Says k s a → xs ≡ ys) → xs ≡ ys
+  pub same-list : (xs ys : List ℕ) → ((a : State) → Says k s a → xs ≡ ys) → xs ≡ ys
   same-list xs ys f = elim (equal? xs ys) [ inl e ↦ e | inr ne ↦ absurd (says-some (λ a y. ne (f a y))) ]
     where
       head-of : ℕ → List ℕ → ℕ

@@ -1,0 +1,3 @@
+-- What theorems about any calls speak of. Definitions only.
+pub mod Runs
+pub mod Examples
