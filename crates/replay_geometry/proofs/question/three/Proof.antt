@@ -1,0 +1,110 @@
+use mathlib.Core.Path.{_∙_}
+use Rattle.replay_geometry.specs.Shown.{saidIn}
+use Rattle.replay_geometry.proofs.Tests.{is-inside3, is-route3, is-node3, after-three}
+use borrow.Author.Needs.{needs}
+use Rattle.replay_geometry.proofs.question.three.Statement.{statement}
+use Rattle.replay_geometry.proofs.question.three.Tie as tie
+
+array-read-t12 : tie.Need-array-read-t12
+array-read-t12 c = search needs
+
+array-read-t15 : tie.Need-array-read-t15
+array-read-t15 c = search needs
+
+array-read-t18 : tie.Need-array-read-t18
+array-read-t18 c = search needs
+
+array-read-t21 : tie.Need-array-read-t21
+array-read-t21 c = search needs
+
+array-read-t24 : tie.Need-array-read-t24
+array-read-t24 c = search needs
+
+array-read-t27 : tie.Need-array-read-t27
+array-read-t27 c = search needs
+
+array-read-t12-2 : tie.Need-array-read-t12-2
+array-read-t12-2 c = search needs
+
+array-read-t27-2 : tie.Need-array-read-t27-2
+array-read-t27-2 c = search needs
+
+array-read-t24-2 : tie.Need-array-read-t24-2
+array-read-t24-2 c = search needs
+
+slice-aggregate-same : tie.Need-slice-aggregate-same
+slice-aggregate-same c = search needs
+
+same-requires : tie.Need-same-requires
+same-requires c κs = search needs
+
+contains-requires : tie.Need-contains-requires
+contains-requires c κs = search needs
+
+returns : tie.Need-returns
+unfolding saidIn
+returns c = is-inside3 _ _ _ _ _ (c .contains .ensures) (c .before .before .same .ensures .0) (c .before .if1 .taken)
+
+slice-aggregate-same-2 : tie.Need-slice-aggregate-same-2
+slice-aggregate-same-2 c = search needs
+
+same-requires-2 : tie.Need-same-requires-2
+same-requires-2 c κs = search needs
+
+child-index-requires : tie.Need-child-index-requires
+child-index-requires c κs = search needs
+
+returns-2 : tie.Need-returns-2
+unfolding saidIn
+returns-2 c = is-route3 _ _ _ _ _ (c .child-index .ensures) (c .before .before .same2 .ensures .0) (c .before .if2 .taken)
+
+slice-aggregate-same-3 : tie.Need-slice-aggregate-same-3
+slice-aggregate-same-3 c = search needs
+
+same-requires-3 : tie.Need-same-requires-3
+same-requires-3 c κs = search needs
+
+min-distance-sq-requires : tie.Need-min-distance-sq-requires
+min-distance-sq-requires c κs = search needs
+
+returns-3 : tie.Need-returns-3
+unfolding saidIn
+returns-3 c = is-node3 _ _ _ _ _ (c .min-distance-sq .ensures) (c .before .before .same3 .ensures .0) (c .before .if3 .taken)
+
+pair3-requires : tie.Need-pair3-requires
+pair3-requires c κs = search needs
+
+returns-4 : tie.Need-returns-4
+returns-4 c =
+    c .pair3 .ensures ∙ after-three _ _ _ _ _ _
+    (c .before .before .before .before .before .before .before .before .same .ensures .1) (c .before .before .before .before .before .before .before .if1 .left)
+    (c .before .before .before .before .before .same2 .ensures .1) (c .before .before .before .before .if2 .left)
+    (c .before .before .same3 .ensures .1) (c .before .if3 .left)
+
+pub three-spec : {M : Type 1} → statement M
+three-spec =
+    tie.close
+    (tie.spec
+    array-read-t12
+    array-read-t15
+    array-read-t18
+    array-read-t21
+    array-read-t24
+    array-read-t27
+    array-read-t12-2
+    array-read-t27-2
+    array-read-t24-2
+    slice-aggregate-same
+    same-requires
+    contains-requires
+    returns
+    slice-aggregate-same-2
+    same-requires-2
+    child-index-requires
+    returns-2
+    slice-aggregate-same-3
+    same-requires-3
+    min-distance-sq-requires
+    returns-3
+    pair3-requires
+    returns-4)
