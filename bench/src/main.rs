@@ -12,8 +12,15 @@ mod trees;
 use benchmark::Benchmark;
 use std::process::ExitCode;
 
-/// Said where they are not linked.
-const LEFT_OUT: &str = "; Boost.Geometry and nanoflann are not installed and left out";
+/// What is said where they are not linked.
+fn left_out(before: &str) -> String {
+    let said = format!("{before}Boost.Geometry and nanoflann are not installed and left out");
+    if cfg!(others) {
+        String::new()
+    } else {
+        said
+    }
+}
 
 /// Every benchmark, in the order of the table.
 fn all() -> Vec<Benchmark> {
@@ -37,18 +44,12 @@ fn main() -> ExitCode {
         return ExitCode::FAILURE;
     }
     if word == "check" {
-        println!(
-            "ok bench ({} cases, both sides give the same{})",
-            all.len(),
-            if cfg!(others) { "" } else { LEFT_OUT }
-        );
+        println!("ok bench ({} cases, both sides give the same{})", all.len(), left_out("; "));
         return ExitCode::SUCCESS;
     }
     let lines: Vec<_> = all.iter().map(|benchmark| (benchmark, measure::measure(benchmark))).collect();
     table::print(&lines);
-    if !cfg!(others) {
-        println!("{}", &LEFT_OUT[2..]);
-    }
+    println!("{}", left_out("\n"));
     if let Err(error) = std::fs::write(word, table::csv(&lines)) {
         eprintln!("bench: {word}: {error}");
         return ExitCode::from(2);
