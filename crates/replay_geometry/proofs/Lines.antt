@@ -18,7 +18,7 @@ use Rattle.record.specs.declared.numbers.Whole.{Whole}
 use Rattle.record.specs.declared.numbers.Whole.the-variants as whole
 use Rattle.record.proofs.Parts.{rest-is, split-rest}
 use Rattle.replay_geometry.specs.Shown.{Said, unknown}
-use Rattle.replay_geometry.specs.Asked.{places, one, two, three, pair3, parts, answer, told, asked}
+use Rattle.replay_geometry.specs.Asked.{places, one, two, pair2, three, pair3, parts, answer, told, asked}
 
 -- what is answered to the numbers, if there are any
 by-numbers : (child : Bool) (n : ℕ) (w : List ℕ) → Option Numbers → Said
@@ -48,7 +48,7 @@ read-not child n w (some m) v g = absurd (let q = g .0 in let z : _≡_ {A = ℕ
 
 -- no question has so many numbers
 none-asks : (child : Bool) (n : ℕ) (w : List ℕ) (v : List Float) (i : ℕ) → ((k : ℕ) → 1 ≤ k → k ≤ 12 → eqb n k ≡ false) → unknown ≡ answer child n w v i
-unfolding answer one two three pair3 parts
+unfolding answer one two pair2 three pair3 parts
 none-asks true n w v i h = simp (h 4 (omega arith) (omega arith), h 6 (omega arith) (omega arith))
 none-asks false n w v i h = simp (h 1 (omega arith) (omega arith), h 2 (omega arith) (omega arith), h 3 (omega arith) (omega arith), h 4 (omega arith) (omega arith), h 6 (omega arith) (omega arith), h 8 (omega arith) (omega arith), h 9 (omega arith) (omega arith), h 12 (omega arith) (omega arith))
 

@@ -14,7 +14,7 @@ use Rattle.record.specs.Text.{same}
 use Rattle.record.proofs.Parts.{same-no}
 use Rattle.replay_geometry.specs.Shown.{Said, number, yes, child, boxed, unknown}
 use Rattle.replay_geometry.specs.Asked as asked
-use Rattle.replay_geometry.specs.Asked.{at, place2, box2, place3, box3, one, two, three, pair3, parts}
+use Rattle.replay_geometry.specs.Asked.{at, place2, box2, place3, box3, one, two, pair2, three, pair3, parts}
 
 -- a test that was met, and one that was not
 met : (f : ℕ → List ℕ → Said) (n k : ℕ) (r : Bool) (w t : List ℕ) → (r ≡ true → w ≡ t) → eqb n k && r ≡ true → f k t ≡ f n w
@@ -61,21 +61,26 @@ pub is-node2 : (n : ℕ) (r : Bool) (w : List ℕ) (v : List Float) (x : Float) 
 unfolding two same
 is-node2 n r w v x e g h = ap (λ (y : Float). number y) e ∙ met (λ (m : ℕ) (u : List ℕ). two m u v) n 6 r w asked.word-node2 g h
 
-pub is-squared2 : (n : ℕ) (r : Bool) (w : List ℕ) (v : List Float) (x : Float) → x ≡ squared (place2 v 0) (place2 v 2) → (r ≡ true → w ≡ asked.word-squared2) → eqb n 4 && r ≡ true → number x ≡ two n w v
-unfolding two same
-is-squared2 n r w v x e g h = ap (λ (y : Float). number y) e ∙ met (λ (m : ℕ) (u : List ℕ). two m u v) n 4 r w asked.word-squared2 g h
-
-pub is-same2 : (n : ℕ) (r : Bool) (w : List ℕ) (v : List Float) (x : Bool) → x ≡ samePlace (place2 v 0) (place2 v 2) → (r ≡ true → w ≡ asked.word-same2) → eqb n 4 && r ≡ true → yes x ≡ two n w v
-unfolding two same
-is-same2 n r w v x e g h = ap (λ (y : Bool). yes y) e ∙ met (λ (m : ℕ) (u : List ℕ). two m u v) n 4 r w asked.word-same2 g h
-
-pub is-meets2 : (n : ℕ) (r : Bool) (w : List ℕ) (v : List Float) (x : Bool) → x ≡ meets (box2 v 0) (box2 v 4) → (r ≡ true → w ≡ asked.word-meets2) → eqb n 8 && r ≡ true → yes x ≡ two n w v
-unfolding two same
-is-meets2 n r w v x e g h = ap (λ (y : Bool). yes y) e ∙ met (λ (m : ℕ) (u : List ℕ). two m u v) n 8 r w asked.word-meets2 g h
-
-pub after-two : (n : ℕ) (w : List ℕ) (v : List Float) (r1 r2 r3 r4 r5 r6 : Bool) → (w ≡ asked.word-inside2 → r1 ≡ true) → eqb n 6 && r1 ≡ false → (w ≡ asked.word-route2 → r2 ≡ true) → eqb n 6 && r2 ≡ false → (w ≡ asked.word-node2 → r3 ≡ true) → eqb n 6 && r3 ≡ false → (w ≡ asked.word-squared2 → r4 ≡ true) → eqb n 4 && r4 ≡ false → (w ≡ asked.word-same2 → r5 ≡ true) → eqb n 4 && r5 ≡ false → (w ≡ asked.word-meets2 → r6 ≡ true) → eqb n 8 && r6 ≡ false → three n w v ≡ two n w v
+pub after-two : (n : ℕ) (w : List ℕ) (v : List Float) (r1 r2 r3 : Bool) → (w ≡ asked.word-inside2 → r1 ≡ true) → eqb n 6 && r1 ≡ false → (w ≡ asked.word-route2 → r2 ≡ true) → eqb n 6 && r2 ≡ false → (w ≡ asked.word-node2 → r3 ≡ true) → eqb n 6 && r3 ≡ false → pair2 n w v ≡ two n w v
 unfolding two
-after-two n w v r1 r2 r3 r4 r5 r6 g1 h1 g2 h2 g3 h3 g4 h4 g5 h5 g6 h6 = simp (missed n 6 r1 w asked.word-inside2 g1 h1, missed n 6 r2 w asked.word-route2 g2 h2, missed n 6 r3 w asked.word-node2 g3 h3, missed n 4 r4 w asked.word-squared2 g4 h4, missed n 4 r5 w asked.word-same2 g5 h5, missed n 8 r6 w asked.word-meets2 g6 h6)
+after-two n w v r1 r2 r3 g1 h1 g2 h2 g3 h3 = simp (missed n 6 r1 w asked.word-inside2 g1 h1, missed n 6 r2 w asked.word-route2 g2 h2, missed n 6 r3 w asked.word-node2 g3 h3)
+
+-- ---- `pair2`
+pub is-squared2 : (n : ℕ) (r : Bool) (w : List ℕ) (v : List Float) (x : Float) → x ≡ squared (place2 v 0) (place2 v 2) → (r ≡ true → w ≡ asked.word-squared2) → eqb n 4 && r ≡ true → number x ≡ pair2 n w v
+unfolding pair2 same
+is-squared2 n r w v x e g h = ap (λ (y : Float). number y) e ∙ met (λ (m : ℕ) (u : List ℕ). pair2 m u v) n 4 r w asked.word-squared2 g h
+
+pub is-same2 : (n : ℕ) (r : Bool) (w : List ℕ) (v : List Float) (x : Bool) → x ≡ samePlace (place2 v 0) (place2 v 2) → (r ≡ true → w ≡ asked.word-same2) → eqb n 4 && r ≡ true → yes x ≡ pair2 n w v
+unfolding pair2 same
+is-same2 n r w v x e g h = ap (λ (y : Bool). yes y) e ∙ met (λ (m : ℕ) (u : List ℕ). pair2 m u v) n 4 r w asked.word-same2 g h
+
+pub is-meets2 : (n : ℕ) (r : Bool) (w : List ℕ) (v : List Float) (x : Bool) → x ≡ meets (box2 v 0) (box2 v 4) → (r ≡ true → w ≡ asked.word-meets2) → eqb n 8 && r ≡ true → yes x ≡ pair2 n w v
+unfolding pair2 same
+is-meets2 n r w v x e g h = ap (λ (y : Bool). yes y) e ∙ met (λ (m : ℕ) (u : List ℕ). pair2 m u v) n 8 r w asked.word-meets2 g h
+
+pub after-pair2 : (n : ℕ) (w : List ℕ) (v : List Float) (r1 r2 r3 : Bool) → (w ≡ asked.word-squared2 → r1 ≡ true) → eqb n 4 && r1 ≡ false → (w ≡ asked.word-same2 → r2 ≡ true) → eqb n 4 && r2 ≡ false → (w ≡ asked.word-meets2 → r3 ≡ true) → eqb n 8 && r3 ≡ false → three n w v ≡ pair2 n w v
+unfolding pair2
+after-pair2 n w v r1 r2 r3 g1 h1 g2 h2 g3 h3 = simp (missed n 4 r1 w asked.word-squared2 g1 h1, missed n 4 r2 w asked.word-same2 g2 h2, missed n 8 r3 w asked.word-meets2 g3 h3)
 
 -- ---- `three`
 pub is-inside3 : (n : ℕ) (r : Bool) (w : List ℕ) (v : List Float) (x : Bool) → x ≡ inside (box3 v 0) (place3 v 6) → (r ≡ true → w ≡ asked.word-inside3) → eqb n 9 && r ≡ true → yes x ≡ three n w v

@@ -104,16 +104,21 @@ three n w v =
     (cond (eqb n 9 && same w word-route3) (child (route (box3 v 0) (place3 v 6)))
     (cond (eqb n 9 && same w word-node3) (number (nodeDistance (box3 v 0) (place3 v 6))) (pair3 n w v)))
 
--- a box of two axes and a place, two places or two boxes, and otherwise three axes
+-- two places of two axes, or two boxes, and otherwise three axes
+unfoldable pub pair2 : ℕ → List ℕ → List Float → Said
+unfolding same squared samePlace meets three
+pair2 n w v =
+    cond (eqb n 4 && same w word-squared2) (number (squared (place2 v 0) (place2 v 2)))
+    (cond (eqb n 4 && same w word-same2) (yes (samePlace (place2 v 0) (place2 v 2)))
+    (cond (eqb n 8 && same w word-meets2) (yes (meets (box2 v 0) (box2 v 4))) (three n w v)))
+
+-- a box of two axes and a place, and otherwise a pair
 unfoldable pub two : ℕ → List ℕ → List Float → Said
-unfolding same inside route nodeDistance squared samePlace meets three
+unfolding same inside route nodeDistance pair2
 two n w v =
     cond (eqb n 6 && same w word-inside2) (yes (inside (box2 v 0) (place2 v 4)))
     (cond (eqb n 6 && same w word-route2) (child (route (box2 v 0) (place2 v 4)))
-    (cond (eqb n 6 && same w word-node2) (number (nodeDistance (box2 v 0) (place2 v 4)))
-    (cond (eqb n 4 && same w word-squared2) (number (squared (place2 v 0) (place2 v 2)))
-    (cond (eqb n 4 && same w word-same2) (yes (samePlace (place2 v 0) (place2 v 2)))
-    (cond (eqb n 8 && same w word-meets2) (yes (meets (box2 v 0) (box2 v 4))) (three n w v))))))
+    (cond (eqb n 6 && same w word-node2) (number (nodeDistance (box2 v 0) (place2 v 4))) (pair2 n w v)))
 
 -- one axis, and otherwise more
 unfoldable pub one : ℕ → List ℕ → List Float → Said

@@ -84,9 +84,9 @@ fn three(word: &[u8], n: usize, v: [f64; 12]) -> Answer
     pair3(word, n, v)
 }
 
-// A rectangle and a point, two points or two rectangles, and otherwise three axes.
-fn two(word: &[u8], n: usize, v: [f64; 12]) -> Answer
-    ensures { λ r. ⌜ saidIn r ≡ Asked.two n (now (word .entry)) v ⌝ }
+// Two points of two axes, or two rectangles, and otherwise three axes.
+fn pair2(word: &[u8], n: usize, v: [f64; 12]) -> Answer
+    ensures { λ r. ⌜ saidIn r ≡ Asked.pair2 n (now (word .entry)) v ⌝ }
 {
     let a = Rectangle {
         x: v[0],
@@ -100,12 +100,34 @@ fn two(word: &[u8], n: usize, v: [f64; 12]) -> Answer
         width: v[6],
         height: v[7],
     };
-    let p = Point2D { x: b.x, y: b.y };
-    let c = Point2D { x: a.x, y: a.y };
-    let d = Point2D {
+    let p = Point2D { x: a.x, y: a.y };
+    let q = Point2D {
         x: a.width,
         y: a.height,
     };
+    if (n == 4) & check::same(word, b"squared2") {
+        return Answer::Number(p.distance_sq(q));
+    }
+    if (n == 4) & check::same(word, b"same2") {
+        return Answer::Yes(p.same(q));
+    }
+    if (n == 8) & check::same(word, b"meets2") {
+        return Answer::Yes(a.intersects(b));
+    }
+    three(word, n, v)
+}
+
+// A rectangle and a point, and otherwise a pair.
+fn two(word: &[u8], n: usize, v: [f64; 12]) -> Answer
+    ensures { λ r. ⌜ saidIn r ≡ Asked.two n (now (word .entry)) v ⌝ }
+{
+    let a = Rectangle {
+        x: v[0],
+        y: v[1],
+        width: v[2],
+        height: v[3],
+    };
+    let p = Point2D { x: v[4], y: v[5] };
     if (n == 6) & check::same(word, b"inside2") {
         return Answer::Yes(a.contains(p));
     }
@@ -115,16 +137,7 @@ fn two(word: &[u8], n: usize, v: [f64; 12]) -> Answer
     if (n == 6) & check::same(word, b"node2") {
         return Answer::Number(a.min_distance_sq(p));
     }
-    if (n == 4) & check::same(word, b"squared2") {
-        return Answer::Number(c.distance_sq(d));
-    }
-    if (n == 4) & check::same(word, b"same2") {
-        return Answer::Yes(c.same(d));
-    }
-    if (n == 8) & check::same(word, b"meets2") {
-        return Answer::Yes(a.intersects(b));
-    }
-    three(word, n, v)
+    pair2(word, n, v)
 }
 
 // One axis, and otherwise more.

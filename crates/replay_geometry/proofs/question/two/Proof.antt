@@ -1,9 +1,15 @@
 use mathlib.Core.Path.{_∙_}
 use Rattle.replay_geometry.specs.Shown.{saidIn}
-use Rattle.replay_geometry.proofs.Tests.{is-inside2, is-route2, is-node2, is-squared2, is-same2, is-meets2, after-two}
+use Rattle.replay_geometry.proofs.Tests.{is-inside2, is-route2, is-node2, after-two}
 use borrow.Author.Needs.{needs}
 use Rattle.replay_geometry.proofs.question.two.Statement.{statement}
 use Rattle.replay_geometry.proofs.question.two.Tie as tie
+
+array-read-t12 : tie.Need-array-read-t12
+array-read-t12 c = search needs
+
+array-read-t15 : tie.Need-array-read-t15
+array-read-t15 c = search needs
 
 array-read-t18 : tie.Need-array-read-t18
 array-read-t18 c = search needs
@@ -11,20 +17,8 @@ array-read-t18 c = search needs
 array-read-t21 : tie.Need-array-read-t21
 array-read-t21 c = search needs
 
-array-read-t24 : tie.Need-array-read-t24
-array-read-t24 c = search needs
-
-array-read-t27 : tie.Need-array-read-t27
-array-read-t27 c = search needs
-
-array-read-t18-2 : tie.Need-array-read-t18-2
-array-read-t18-2 c = search needs
-
-array-read-t27-2 : tie.Need-array-read-t27-2
-array-read-t27-2 c = search needs
-
-array-read-t24-2 : tie.Need-array-read-t24-2
-array-read-t24-2 c = search needs
+array-read-t12-2 : tie.Need-array-read-t12-2
+array-read-t12-2 c = search needs
 
 array-read-t21-2 : tie.Need-array-read-t21-2
 array-read-t21-2 c = search needs
@@ -68,69 +62,25 @@ returns-3 : tie.Need-returns-3
 unfolding saidIn
 returns-3 c = is-node2 _ _ _ _ _ (c .min-distance-sq .ensures) (c .before .before .same3 .ensures .0) (c .before .if3 .taken)
 
-slice-aggregate-same-4 : tie.Need-slice-aggregate-same-4
-slice-aggregate-same-4 c = search needs
-
-same-requires-4 : tie.Need-same-requires-4
-same-requires-4 c κs = search needs
-
-distance-sq-requires : tie.Need-distance-sq-requires
-distance-sq-requires c κs = search needs
+pair2-requires : tie.Need-pair2-requires
+pair2-requires c κs = search needs
 
 returns-4 : tie.Need-returns-4
-unfolding saidIn
-returns-4 c = is-squared2 _ _ _ _ _ (c .distance-sq .ensures) (c .before .before .same4 .ensures .0) (c .before .if4 .taken)
-
-slice-aggregate-same-5 : tie.Need-slice-aggregate-same-5
-slice-aggregate-same-5 c = search needs
-
-same-requires-5 : tie.Need-same-requires-5
-same-requires-5 c κs = search needs
-
-same-requires-6 : tie.Need-same-requires-6
-same-requires-6 c κs = search needs
-
-returns-5 : tie.Need-returns-5
-unfolding saidIn
-returns-5 c = is-same2 _ _ _ _ _ (c .same6 .ensures) (c .before .before .same5 .ensures .0) (c .before .if5 .taken)
-
-slice-aggregate-same-6 : tie.Need-slice-aggregate-same-6
-slice-aggregate-same-6 c = search needs
-
-same-requires-7 : tie.Need-same-requires-7
-same-requires-7 c κs = search needs
-
-intersects-requires : tie.Need-intersects-requires
-intersects-requires c κs = search needs
-
-returns-6 : tie.Need-returns-6
-unfolding saidIn
-returns-6 c = is-meets2 _ _ _ _ _ (c .intersects .ensures) (c .before .before .same7 .ensures .0) (c .before .if6 .taken)
-
-three-requires : tie.Need-three-requires
-three-requires c κs = search needs
-
-returns-7 : tie.Need-returns-7
-returns-7 c =
-    c .three .ensures ∙ after-two _ _ _ _ _ _ _ _ _
-    (c .before .before .before .before .before .before .before .before .before .before .before .before .before .before .before .before .before .same .ensures .1) (c .before .before .before .before .before .before .before .before .before .before .before .before .before .before .before .before .if1 .left)
-    (c .before .before .before .before .before .before .before .before .before .before .before .before .before .before .same2 .ensures .1) (c .before .before .before .before .before .before .before .before .before .before .before .before .before .if2 .left)
-    (c .before .before .before .before .before .before .before .before .before .before .before .same3 .ensures .1) (c .before .before .before .before .before .before .before .before .before .before .if3 .left)
-    (c .before .before .before .before .before .before .before .before .same4 .ensures .1) (c .before .before .before .before .before .before .before .if4 .left)
-    (c .before .before .before .before .before .same5 .ensures .1) (c .before .before .before .before .if5 .left)
-    (c .before .before .same7 .ensures .1) (c .before .if6 .left)
+returns-4 c =
+    c .pair2 .ensures ∙ after-two _ _ _ _ _ _
+    (c .before .before .before .before .before .before .before .before .same .ensures .1) (c .before .before .before .before .before .before .before .if1 .left)
+    (c .before .before .before .before .before .same2 .ensures .1) (c .before .before .before .before .if2 .left)
+    (c .before .before .same3 .ensures .1) (c .before .if3 .left)
 
 pub two-spec : {M : Type 1} → statement M
 two-spec =
     tie.close
     (tie.spec
+    array-read-t12
+    array-read-t15
     array-read-t18
     array-read-t21
-    array-read-t24
-    array-read-t27
-    array-read-t18-2
-    array-read-t27-2
-    array-read-t24-2
+    array-read-t12-2
     array-read-t21-2
     slice-aggregate-same
     same-requires
@@ -144,17 +94,5 @@ two-spec =
     same-requires-3
     min-distance-sq-requires
     returns-3
-    slice-aggregate-same-4
-    same-requires-4
-    distance-sq-requires
-    returns-4
-    slice-aggregate-same-5
-    same-requires-5
-    same-requires-6
-    returns-5
-    slice-aggregate-same-6
-    same-requires-7
-    intersects-requires
-    returns-6
-    three-requires
-    returns-7)
+    pair2-requires
+    returns-4)
