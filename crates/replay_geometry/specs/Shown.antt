@@ -5,7 +5,6 @@ use mathlib.Core.List.{List, [], _∷_, _++_, map}
 use lib.Dec.{ltb}
 use lib.Ieee.{Float}
 use lib.ListN.{length}
-use lib.Seq.{sets}
 use Rattle.model.specs.Boxes.{Side}
 use Rattle.geometry.specs.Sides.{sides2, sides3}
 use Rattle.record.specs.Numbers.{hex}

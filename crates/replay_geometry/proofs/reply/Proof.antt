@@ -1,3 +1,4 @@
+-- `replay_geometry::reply` meets its contract. Assumes nothing.
 use Rattle.replay_geometry.proofs.Texts.{line-fits}
 use borrow.Author.Needs.{needs}
 use Rattle.replay_geometry.proofs.reply.Statement.{statement}

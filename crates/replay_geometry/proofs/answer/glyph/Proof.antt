@@ -1,3 +1,4 @@
+-- `replay_geometry::answer::glyph` meets its contract. Assumes nothing.
 use borrow.Author.Needs.{needs}
 use Rattle.replay_geometry.proofs.Texts.{glyph-low, glyph-high}
 use Rattle.replay_geometry.proofs.answer.glyph.Statement.{statement}

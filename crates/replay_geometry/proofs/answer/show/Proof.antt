@@ -1,3 +1,4 @@
+-- `replay_geometry::answer::show` meets its contract. Assumes nothing.
 use mathlib.Core.Path.{sym, _∙_}
 use native.Mathlib.Omega.{arith}
 use Rattle.replay_geometry.specs.Shown.{saidIn, shown}

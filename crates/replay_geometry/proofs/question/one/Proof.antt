@@ -1,3 +1,4 @@
+-- `replay_geometry::question::one` meets its contract. Assumes nothing.
 use mathlib.Core.Path.{_∙_}
 use Rattle.replay_geometry.specs.Shown.{saidIn}
 use Rattle.replay_geometry.proofs.Tests.{is-next, is-span, is-mid, is-axis, after-one}

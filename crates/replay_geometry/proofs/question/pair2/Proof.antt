@@ -1,3 +1,4 @@
+-- `replay_geometry::question::pair2` meets its contract. Assumes nothing.
 use mathlib.Core.Path.{_∙_}
 use Rattle.replay_geometry.specs.Shown.{saidIn}
 use Rattle.replay_geometry.proofs.Tests.{is-squared2, is-same2, is-meets2, after-pair2}

@@ -1,3 +1,4 @@
+-- `replay_geometry::question::pair3` meets its contract. Assumes nothing.
 use Rattle.replay_geometry.specs.Shown.{saidIn}
 use Rattle.replay_geometry.proofs.Tests.{is-squared3, is-same3, is-meets3, after-pair3}
 use borrow.Author.Needs.{needs}

@@ -1,3 +1,4 @@
+-- `replay_geometry::question::parts` meets its contract. Assumes nothing.
 use Rattle.replay_geometry.specs.Shown.{saidIn}
 use Rattle.replay_geometry.proofs.Tests.{is-part2, is-part3, after-parts}
 use borrow.Author.Needs.{needs}

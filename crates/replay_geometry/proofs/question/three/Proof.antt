@@ -1,3 +1,4 @@
+-- `replay_geometry::question::three` meets its contract. Assumes nothing.
 use mathlib.Core.Path.{_∙_}
 use Rattle.replay_geometry.specs.Shown.{saidIn}
 use Rattle.replay_geometry.proofs.Tests.{is-inside3, is-route3, is-node3, after-three}

@@ -1,3 +1,4 @@
+-- `replay_geometry::question::two` meets its contract. Assumes nothing.
 use mathlib.Core.Path.{_∙_}
 use Rattle.replay_geometry.specs.Shown.{saidIn}
 use Rattle.replay_geometry.proofs.Tests.{is-inside2, is-route2, is-node2, after-two}
