@@ -61,9 +61,13 @@ pub is-node2 : (n : ℕ) (r : Bool) (w : List ℕ) (v : List Float) (x : Float) 
 unfolding two same
 is-node2 n r w v x e g h = ap (λ (y : Float). number y) e ∙ met (λ (m : ℕ) (u : List ℕ). two m u v) n 6 r w asked.word-node2 g h
 
-pub after-two : (n : ℕ) (w : List ℕ) (v : List Float) (r1 r2 r3 : Bool) → (w ≡ asked.word-inside2 → r1 ≡ true) → eqb n 6 && r1 ≡ false → (w ≡ asked.word-route2 → r2 ≡ true) → eqb n 6 && r2 ≡ false → (w ≡ asked.word-node2 → r3 ≡ true) → eqb n 6 && r3 ≡ false → pair2 n w v ≡ two n w v
+pub is-meets2 : (n : ℕ) (r : Bool) (w : List ℕ) (v : List Float) (x : Bool) → x ≡ meets (box2 v 0) (box2 v 4) → (r ≡ true → w ≡ asked.word-meets2) → eqb n 8 && r ≡ true → yes x ≡ two n w v
+unfolding two same
+is-meets2 n r w v x e g h = ap (λ (y : Bool). yes y) e ∙ met (λ (m : ℕ) (u : List ℕ). two m u v) n 8 r w asked.word-meets2 g h
+
+pub after-two : (n : ℕ) (w : List ℕ) (v : List Float) (r1 r2 r3 r4 : Bool) → (w ≡ asked.word-inside2 → r1 ≡ true) → eqb n 6 && r1 ≡ false → (w ≡ asked.word-route2 → r2 ≡ true) → eqb n 6 && r2 ≡ false → (w ≡ asked.word-node2 → r3 ≡ true) → eqb n 6 && r3 ≡ false → (w ≡ asked.word-meets2 → r4 ≡ true) → eqb n 8 && r4 ≡ false → pair2 n w v ≡ two n w v
 unfolding two
-after-two n w v r1 r2 r3 g1 h1 g2 h2 g3 h3 = simp (missed n 6 r1 w asked.word-inside2 g1 h1, missed n 6 r2 w asked.word-route2 g2 h2, missed n 6 r3 w asked.word-node2 g3 h3)
+after-two n w v r1 r2 r3 r4 g1 h1 g2 h2 g3 h3 g4 h4 = simp (missed n 6 r1 w asked.word-inside2 g1 h1, missed n 6 r2 w asked.word-route2 g2 h2, missed n 6 r3 w asked.word-node2 g3 h3, missed n 8 r4 w asked.word-meets2 g4 h4)
 
 -- ---- `pair2`
 pub is-squared2 : (n : ℕ) (r : Bool) (w : List ℕ) (v : List Float) (x : Float) → x ≡ squared (place2 v 0) (place2 v 2) → (r ≡ true → w ≡ asked.word-squared2) → eqb n 4 && r ≡ true → number x ≡ pair2 n w v
@@ -74,13 +78,9 @@ pub is-same2 : (n : ℕ) (r : Bool) (w : List ℕ) (v : List Float) (x : Bool) �
 unfolding pair2 same
 is-same2 n r w v x e g h = ap (λ (y : Bool). yes y) e ∙ met (λ (m : ℕ) (u : List ℕ). pair2 m u v) n 4 r w asked.word-same2 g h
 
-pub is-meets2 : (n : ℕ) (r : Bool) (w : List ℕ) (v : List Float) (x : Bool) → x ≡ meets (box2 v 0) (box2 v 4) → (r ≡ true → w ≡ asked.word-meets2) → eqb n 8 && r ≡ true → yes x ≡ pair2 n w v
-unfolding pair2 same
-is-meets2 n r w v x e g h = ap (λ (y : Bool). yes y) e ∙ met (λ (m : ℕ) (u : List ℕ). pair2 m u v) n 8 r w asked.word-meets2 g h
-
-pub after-pair2 : (n : ℕ) (w : List ℕ) (v : List Float) (r1 r2 r3 : Bool) → (w ≡ asked.word-squared2 → r1 ≡ true) → eqb n 4 && r1 ≡ false → (w ≡ asked.word-same2 → r2 ≡ true) → eqb n 4 && r2 ≡ false → (w ≡ asked.word-meets2 → r3 ≡ true) → eqb n 8 && r3 ≡ false → three n w v ≡ pair2 n w v
+pub after-pair2 : (n : ℕ) (w : List ℕ) (v : List Float) (r1 r2 : Bool) → (w ≡ asked.word-squared2 → r1 ≡ true) → eqb n 4 && r1 ≡ false → (w ≡ asked.word-same2 → r2 ≡ true) → eqb n 4 && r2 ≡ false → three n w v ≡ pair2 n w v
 unfolding pair2
-after-pair2 n w v r1 r2 r3 g1 h1 g2 h2 g3 h3 = simp (missed n 4 r1 w asked.word-squared2 g1 h1, missed n 4 r2 w asked.word-same2 g2 h2, missed n 8 r3 w asked.word-meets2 g3 h3)
+after-pair2 n w v r1 r2 g1 h1 g2 h2 = simp (missed n 4 r1 w asked.word-squared2 g1 h1, missed n 4 r2 w asked.word-same2 g2 h2)
 
 -- ---- `three`
 pub is-inside3 : (n : ℕ) (r : Bool) (w : List ℕ) (v : List Float) (x : Bool) → x ≡ inside (box3 v 0) (place3 v 6) → (r ≡ true → w ≡ asked.word-inside3) → eqb n 9 && r ≡ true → yes x ≡ three n w v
@@ -95,9 +95,13 @@ pub is-node3 : (n : ℕ) (r : Bool) (w : List ℕ) (v : List Float) (x : Float) 
 unfolding three same
 is-node3 n r w v x e g h = ap (λ (y : Float). number y) e ∙ met (λ (m : ℕ) (u : List ℕ). three m u v) n 9 r w asked.word-node3 g h
 
-pub after-three : (n : ℕ) (w : List ℕ) (v : List Float) (r1 r2 r3 : Bool) → (w ≡ asked.word-inside3 → r1 ≡ true) → eqb n 9 && r1 ≡ false → (w ≡ asked.word-route3 → r2 ≡ true) → eqb n 9 && r2 ≡ false → (w ≡ asked.word-node3 → r3 ≡ true) → eqb n 9 && r3 ≡ false → pair3 n w v ≡ three n w v
+pub is-meets3 : (n : ℕ) (r : Bool) (w : List ℕ) (v : List Float) (x : Bool) → x ≡ meets (box3 v 0) (box3 v 6) → (r ≡ true → w ≡ asked.word-meets3) → eqb n 12 && r ≡ true → yes x ≡ three n w v
+unfolding three same
+is-meets3 n r w v x e g h = ap (λ (y : Bool). yes y) e ∙ met (λ (m : ℕ) (u : List ℕ). three m u v) n 12 r w asked.word-meets3 g h
+
+pub after-three : (n : ℕ) (w : List ℕ) (v : List Float) (r1 r2 r3 r4 : Bool) → (w ≡ asked.word-inside3 → r1 ≡ true) → eqb n 9 && r1 ≡ false → (w ≡ asked.word-route3 → r2 ≡ true) → eqb n 9 && r2 ≡ false → (w ≡ asked.word-node3 → r3 ≡ true) → eqb n 9 && r3 ≡ false → (w ≡ asked.word-meets3 → r4 ≡ true) → eqb n 12 && r4 ≡ false → pair3 n w v ≡ three n w v
 unfolding three
-after-three n w v r1 r2 r3 g1 h1 g2 h2 g3 h3 = simp (missed n 9 r1 w asked.word-inside3 g1 h1, missed n 9 r2 w asked.word-route3 g2 h2, missed n 9 r3 w asked.word-node3 g3 h3)
+after-three n w v r1 r2 r3 r4 g1 h1 g2 h2 g3 h3 g4 h4 = simp (missed n 9 r1 w asked.word-inside3 g1 h1, missed n 9 r2 w asked.word-route3 g2 h2, missed n 9 r3 w asked.word-node3 g3 h3, missed n 12 r4 w asked.word-meets3 g4 h4)
 
 -- ---- `pair3`
 pub is-squared3 : (n : ℕ) (r : Bool) (w : List ℕ) (v : List Float) (x : Float) → x ≡ squared (place3 v 0) (place3 v 3) → (r ≡ true → w ≡ asked.word-squared3) → eqb n 6 && r ≡ true → number x ≡ pair3 n w v
@@ -108,13 +112,9 @@ pub is-same3 : (n : ℕ) (r : Bool) (w : List ℕ) (v : List Float) (x : Bool) �
 unfolding pair3 same
 is-same3 n r w v x e g h = ap (λ (y : Bool). yes y) e ∙ met (λ (m : ℕ) (u : List ℕ). pair3 m u v) n 6 r w asked.word-same3 g h
 
-pub is-meets3 : (n : ℕ) (r : Bool) (w : List ℕ) (v : List Float) (x : Bool) → x ≡ meets (box3 v 0) (box3 v 6) → (r ≡ true → w ≡ asked.word-meets3) → eqb n 12 && r ≡ true → yes x ≡ pair3 n w v
-unfolding pair3 same
-is-meets3 n r w v x e g h = ap (λ (y : Bool). yes y) e ∙ met (λ (m : ℕ) (u : List ℕ). pair3 m u v) n 12 r w asked.word-meets3 g h
-
-pub after-pair3 : (n : ℕ) (w : List ℕ) (v : List Float) (r1 r2 r3 : Bool) → (w ≡ asked.word-squared3 → r1 ≡ true) → eqb n 6 && r1 ≡ false → (w ≡ asked.word-same3 → r2 ≡ true) → eqb n 6 && r2 ≡ false → (w ≡ asked.word-meets3 → r3 ≡ true) → eqb n 12 && r3 ≡ false → unknown ≡ pair3 n w v
+pub after-pair3 : (n : ℕ) (w : List ℕ) (v : List Float) (r1 r2 : Bool) → (w ≡ asked.word-squared3 → r1 ≡ true) → eqb n 6 && r1 ≡ false → (w ≡ asked.word-same3 → r2 ≡ true) → eqb n 6 && r2 ≡ false → unknown ≡ pair3 n w v
 unfolding pair3
-after-pair3 n w v r1 r2 r3 g1 h1 g2 h2 g3 h3 = simp (missed n 6 r1 w asked.word-squared3 g1 h1, missed n 6 r2 w asked.word-same3 g2 h2, missed n 12 r3 w asked.word-meets3 g3 h3)
+after-pair3 n w v r1 r2 g1 h1 g2 h2 = simp (missed n 6 r1 w asked.word-squared3 g1 h1, missed n 6 r2 w asked.word-same3 g2 h2)
 
 -- ---- `parts`
 pub is-part2 : (n : ℕ) (r : Bool) (w : List ℕ) (v : List Float) (i : ℕ) (b : List Side) → b ≡ part (box2 v 0) i → (r ≡ true → w ≡ asked.word-part2) → eqb n 4 && r ≡ true → boxed b ≡ parts n w v i

@@ -88,37 +88,37 @@ abbrev pub box3 : List Float → ℕ → List Side
 box3 v k = side (at v k) (at v (k + 3)) ∷ side (at v (k + 1)) (at v (k + 4)) ∷ side (at v (k + 2)) (at v (k + 5)) ∷ []
 
 -- ---- answers: n is how many numbers there are, w the word
--- two places of three axes, or two boxes
+-- two places of three axes
 unfoldable pub pair3 : ℕ → List ℕ → List Float → Said
-unfolding same squared samePlace meets
+unfolding same squared samePlace
 pair3 n w v =
     cond (eqb n 6 && same w word-squared3) (number (squared (place3 v 0) (place3 v 3)))
-    (cond (eqb n 6 && same w word-same3) (yes (samePlace (place3 v 0) (place3 v 3)))
-    (cond (eqb n 12 && same w word-meets3) (yes (meets (box3 v 0) (box3 v 6))) unknown))
+    (cond (eqb n 6 && same w word-same3) (yes (samePlace (place3 v 0) (place3 v 3))) unknown)
 
--- a box of three axes and a place, and otherwise a pair
+-- a box of three axes and a place, or two boxes, and otherwise two places
 unfoldable pub three : ℕ → List ℕ → List Float → Said
-unfolding same inside route nodeDistance pair3
+unfolding same inside route nodeDistance meets pair3
 three n w v =
     cond (eqb n 9 && same w word-inside3) (yes (inside (box3 v 0) (place3 v 6)))
     (cond (eqb n 9 && same w word-route3) (child (route (box3 v 0) (place3 v 6)))
-    (cond (eqb n 9 && same w word-node3) (number (nodeDistance (box3 v 0) (place3 v 6))) (pair3 n w v)))
+    (cond (eqb n 9 && same w word-node3) (number (nodeDistance (box3 v 0) (place3 v 6)))
+    (cond (eqb n 12 && same w word-meets3) (yes (meets (box3 v 0) (box3 v 6))) (pair3 n w v))))
 
--- two places of two axes, or two boxes, and otherwise three axes
+-- two places of two axes, and otherwise three axes
 unfoldable pub pair2 : ℕ → List ℕ → List Float → Said
-unfolding same squared samePlace meets three
+unfolding same squared samePlace three
 pair2 n w v =
     cond (eqb n 4 && same w word-squared2) (number (squared (place2 v 0) (place2 v 2)))
-    (cond (eqb n 4 && same w word-same2) (yes (samePlace (place2 v 0) (place2 v 2)))
-    (cond (eqb n 8 && same w word-meets2) (yes (meets (box2 v 0) (box2 v 4))) (three n w v)))
+    (cond (eqb n 4 && same w word-same2) (yes (samePlace (place2 v 0) (place2 v 2))) (three n w v))
 
--- a box of two axes and a place, and otherwise a pair
+-- a box of two axes and a place, or two boxes, and otherwise two places
 unfoldable pub two : ℕ → List ℕ → List Float → Said
-unfolding same inside route nodeDistance pair2
+unfolding same inside route nodeDistance meets pair2
 two n w v =
     cond (eqb n 6 && same w word-inside2) (yes (inside (box2 v 0) (place2 v 4)))
     (cond (eqb n 6 && same w word-route2) (child (route (box2 v 0) (place2 v 4)))
-    (cond (eqb n 6 && same w word-node2) (number (nodeDistance (box2 v 0) (place2 v 4))) (pair2 n w v)))
+    (cond (eqb n 6 && same w word-node2) (number (nodeDistance (box2 v 0) (place2 v 4)))
+    (cond (eqb n 8 && same w word-meets2) (yes (meets (box2 v 0) (box2 v 4))) (pair2 n w v))))
 
 -- one axis, and otherwise more
 unfoldable pub one : ℕ → List ℕ → List Float → Said

@@ -13,9 +13,32 @@ use record::fields::find;
 use record::fields::numbers_of;
 use record::numbers::Whole;
 
-// Two points of three axes, or two cubes.
+// Two points of three axes.
 fn pair3(word: &[u8], n: usize, v: [f64; 12]) -> Answer
     ensures { λ r. ⌜ saidIn r ≡ Asked.pair3 n (now (word .entry)) v ⌝ }
+{
+    let p = Point3D {
+        x: v[0],
+        y: v[1],
+        z: v[2],
+    };
+    let q = Point3D {
+        x: v[3],
+        y: v[4],
+        z: v[5],
+    };
+    if (n == 6) & check::same(word, b"squared3") {
+        return Answer::Number(p.distance_sq(q));
+    }
+    if (n == 6) & check::same(word, b"same3") {
+        return Answer::Yes(p.same(q));
+    }
+    Answer::Unknown
+}
+
+// A cube and a point, or two cubes, and otherwise two points.
+fn three(word: &[u8], n: usize, v: [f64; 12]) -> Answer
+    ensures { λ r. ⌜ saidIn r ≡ Asked.three n (now (word .entry)) v ⌝ }
 {
     let a = Cube {
         x: v[0],
@@ -34,43 +57,9 @@ fn pair3(word: &[u8], n: usize, v: [f64; 12]) -> Answer
         depth: v[11],
     };
     let p = Point3D {
-        x: a.x,
-        y: a.y,
-        z: a.z,
-    };
-    let q = Point3D {
-        x: a.width,
-        y: a.height,
-        z: a.depth,
-    };
-    if (n == 6) & check::same(word, b"squared3") {
-        return Answer::Number(p.distance_sq(q));
-    }
-    if (n == 6) & check::same(word, b"same3") {
-        return Answer::Yes(p.same(q));
-    }
-    if (n == 12) & check::same(word, b"meets3") {
-        return Answer::Yes(a.intersects(b));
-    }
-    Answer::Unknown
-}
-
-// A cube and a point, and otherwise a pair.
-fn three(word: &[u8], n: usize, v: [f64; 12]) -> Answer
-    ensures { λ r. ⌜ saidIn r ≡ Asked.three n (now (word .entry)) v ⌝ }
-{
-    let a = Cube {
-        x: v[0],
-        y: v[1],
-        z: v[2],
-        width: v[3],
-        height: v[4],
-        depth: v[5],
-    };
-    let p = Point3D {
-        x: v[6],
-        y: v[7],
-        z: v[8],
+        x: b.x,
+        y: b.y,
+        z: b.z,
     };
     if (n == 9) & check::same(word, b"inside3") {
         return Answer::Yes(a.contains(p));
@@ -81,12 +70,30 @@ fn three(word: &[u8], n: usize, v: [f64; 12]) -> Answer
     if (n == 9) & check::same(word, b"node3") {
         return Answer::Number(a.min_distance_sq(p));
     }
+    if (n == 12) & check::same(word, b"meets3") {
+        return Answer::Yes(a.intersects(b));
+    }
     pair3(word, n, v)
 }
 
-// Two points of two axes, or two rectangles, and otherwise three axes.
+// Two points of two axes, and otherwise three axes.
 fn pair2(word: &[u8], n: usize, v: [f64; 12]) -> Answer
     ensures { λ r. ⌜ saidIn r ≡ Asked.pair2 n (now (word .entry)) v ⌝ }
+{
+    let p = Point2D { x: v[0], y: v[1] };
+    let q = Point2D { x: v[2], y: v[3] };
+    if (n == 4) & check::same(word, b"squared2") {
+        return Answer::Number(p.distance_sq(q));
+    }
+    if (n == 4) & check::same(word, b"same2") {
+        return Answer::Yes(p.same(q));
+    }
+    three(word, n, v)
+}
+
+// A rectangle and a point, or two rectangles, and otherwise two points.
+fn two(word: &[u8], n: usize, v: [f64; 12]) -> Answer
+    ensures { λ r. ⌜ saidIn r ≡ Asked.two n (now (word .entry)) v ⌝ }
 {
     let a = Rectangle {
         x: v[0],
@@ -100,34 +107,7 @@ fn pair2(word: &[u8], n: usize, v: [f64; 12]) -> Answer
         width: v[6],
         height: v[7],
     };
-    let p = Point2D { x: a.x, y: a.y };
-    let q = Point2D {
-        x: a.width,
-        y: a.height,
-    };
-    if (n == 4) & check::same(word, b"squared2") {
-        return Answer::Number(p.distance_sq(q));
-    }
-    if (n == 4) & check::same(word, b"same2") {
-        return Answer::Yes(p.same(q));
-    }
-    if (n == 8) & check::same(word, b"meets2") {
-        return Answer::Yes(a.intersects(b));
-    }
-    three(word, n, v)
-}
-
-// A rectangle and a point, and otherwise a pair.
-fn two(word: &[u8], n: usize, v: [f64; 12]) -> Answer
-    ensures { λ r. ⌜ saidIn r ≡ Asked.two n (now (word .entry)) v ⌝ }
-{
-    let a = Rectangle {
-        x: v[0],
-        y: v[1],
-        width: v[2],
-        height: v[3],
-    };
-    let p = Point2D { x: v[4], y: v[5] };
+    let p = Point2D { x: b.x, y: b.y };
     if (n == 6) & check::same(word, b"inside2") {
         return Answer::Yes(a.contains(p));
     }
@@ -136,6 +116,9 @@ fn two(word: &[u8], n: usize, v: [f64; 12]) -> Answer
     }
     if (n == 6) & check::same(word, b"node2") {
         return Answer::Number(a.min_distance_sq(p));
+    }
+    if (n == 8) & check::same(word, b"meets2") {
+        return Answer::Yes(a.intersects(b));
     }
     pair2(word, n, v)
 }

@@ -1,34 +1,22 @@
 -- `replay_geometry::question::pair2` meets its contract. Assumes nothing.
 use mathlib.Core.Path.{_∙_}
 use Rattle.replay_geometry.specs.Shown.{saidIn}
-use Rattle.replay_geometry.proofs.Tests.{is-squared2, is-same2, is-meets2, after-pair2}
+use Rattle.replay_geometry.proofs.Tests.{is-squared2, is-same2, after-pair2}
 use borrow.Author.Needs.{needs}
 use Rattle.replay_geometry.proofs.question.pair2.Statement.{statement}
 use Rattle.replay_geometry.proofs.question.pair2.Tie as tie
 
+array-read-t11 : tie.Need-array-read-t11
+array-read-t11 c = search needs
+
 array-read-t14 : tie.Need-array-read-t14
 array-read-t14 c = search needs
 
-array-read-t17 : tie.Need-array-read-t17
-array-read-t17 c = search needs
-
-array-read-t20 : tie.Need-array-read-t20
-array-read-t20 c = search needs
-
-array-read-t23 : tie.Need-array-read-t23
-array-read-t23 c = search needs
+array-read-t11-2 : tie.Need-array-read-t11-2
+array-read-t11-2 c = search needs
 
 array-read-t14-2 : tie.Need-array-read-t14-2
 array-read-t14-2 c = search needs
-
-array-read-t23-2 : tie.Need-array-read-t23-2
-array-read-t23-2 c = search needs
-
-array-read-t20-2 : tie.Need-array-read-t20-2
-array-read-t20-2 c = search needs
-
-array-read-t17-2 : tie.Need-array-read-t17-2
-array-read-t17-2 c = search needs
 
 slice-aggregate-same : tie.Need-slice-aggregate-same
 slice-aggregate-same c = search needs
@@ -56,41 +44,23 @@ returns-2 : tie.Need-returns-2
 unfolding saidIn
 returns-2 c = is-same2 _ _ _ _ _ (c .same3 .ensures) (c .before .before .same2 .ensures .0) (c .before .if2 .taken)
 
-slice-aggregate-same-3 : tie.Need-slice-aggregate-same-3
-slice-aggregate-same-3 c = search needs
-
-same-requires-4 : tie.Need-same-requires-4
-same-requires-4 c κs = search needs
-
-intersects-requires : tie.Need-intersects-requires
-intersects-requires c κs = search needs
-
-returns-3 : tie.Need-returns-3
-unfolding saidIn
-returns-3 c = is-meets2 _ _ _ _ _ (c .intersects .ensures) (c .before .before .same4 .ensures .0) (c .before .if3 .taken)
-
 three-requires : tie.Need-three-requires
 three-requires c κs = search needs
 
-returns-4 : tie.Need-returns-4
-returns-4 c =
-    c .three .ensures ∙ after-pair2 _ _ _ _ _ _
-    (c .before .before .before .before .before .before .before .before .same .ensures .1) (c .before .before .before .before .before .before .before .if1 .left)
-    (c .before .before .before .before .before .same2 .ensures .1) (c .before .before .before .before .if2 .left)
-    (c .before .before .same4 .ensures .1) (c .before .if3 .left)
+returns-3 : tie.Need-returns-3
+returns-3 c =
+    c .three .ensures ∙ after-pair2 _ _ _ _ _
+    (c .before .before .before .before .before .same .ensures .1) (c .before .before .before .before .if1 .left)
+    (c .before .before .same2 .ensures .1) (c .before .if2 .left)
 
 pub pair2-spec : {M : Type 1} → statement M
 pair2-spec =
     tie.close
     (tie.spec
+    array-read-t11
     array-read-t14
-    array-read-t17
-    array-read-t20
-    array-read-t23
+    array-read-t11-2
     array-read-t14-2
-    array-read-t23-2
-    array-read-t20-2
-    array-read-t17-2
     slice-aggregate-same
     same-requires
     distance-sq-requires
@@ -99,9 +69,5 @@ pair2-spec =
     same-requires-2
     same-requires-3
     returns-2
-    slice-aggregate-same-3
-    same-requires-4
-    intersects-requires
-    returns-3
     three-requires
-    returns-4)
+    returns-3)

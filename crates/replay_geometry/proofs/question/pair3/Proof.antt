@@ -1,9 +1,12 @@
 -- `replay_geometry::question::pair3` meets its contract. Assumes nothing.
 use Rattle.replay_geometry.specs.Shown.{saidIn}
-use Rattle.replay_geometry.proofs.Tests.{is-squared3, is-same3, is-meets3, after-pair3}
+use Rattle.replay_geometry.proofs.Tests.{is-squared3, is-same3, after-pair3}
 use borrow.Author.Needs.{needs}
 use Rattle.replay_geometry.proofs.question.pair3.Statement.{statement}
 use Rattle.replay_geometry.proofs.question.pair3.Tie as tie
+
+array-read-t11 : tie.Need-array-read-t11
+array-read-t11 c = search needs
 
 array-read-t14 : tie.Need-array-read-t14
 array-read-t14 c = search needs
@@ -11,35 +14,14 @@ array-read-t14 c = search needs
 array-read-t17 : tie.Need-array-read-t17
 array-read-t17 c = search needs
 
-array-read-t20 : tie.Need-array-read-t20
-array-read-t20 c = search needs
-
-array-read-t23 : tie.Need-array-read-t23
-array-read-t23 c = search needs
-
-array-read-t26 : tie.Need-array-read-t26
-array-read-t26 c = search needs
-
-array-read-t29 : tie.Need-array-read-t29
-array-read-t29 c = search needs
-
-array-read-t14-2 : tie.Need-array-read-t14-2
-array-read-t14-2 c = search needs
-
-array-read-t29-2 : tie.Need-array-read-t29-2
-array-read-t29-2 c = search needs
-
-array-read-t26-2 : tie.Need-array-read-t26-2
-array-read-t26-2 c = search needs
-
-array-read-t23-2 : tie.Need-array-read-t23-2
-array-read-t23-2 c = search needs
-
-array-read-t20-2 : tie.Need-array-read-t20-2
-array-read-t20-2 c = search needs
+array-read-t11-2 : tie.Need-array-read-t11-2
+array-read-t11-2 c = search needs
 
 array-read-t17-2 : tie.Need-array-read-t17-2
 array-read-t17-2 c = search needs
+
+array-read-t14-2 : tie.Need-array-read-t14-2
+array-read-t14-2 c = search needs
 
 slice-aggregate-same : tie.Need-slice-aggregate-same
 slice-aggregate-same c = search needs
@@ -67,43 +49,23 @@ returns-2 : tie.Need-returns-2
 unfolding saidIn
 returns-2 c = is-same3 _ _ _ _ _ (c .same3 .ensures) (c .before .before .same2 .ensures .0) (c .before .if2 .taken)
 
-slice-aggregate-same-3 : tie.Need-slice-aggregate-same-3
-slice-aggregate-same-3 c = search needs
-
-same-requires-4 : tie.Need-same-requires-4
-same-requires-4 c κs = search needs
-
-intersects-requires : tie.Need-intersects-requires
-intersects-requires c κs = search needs
-
 returns-3 : tie.Need-returns-3
 unfolding saidIn
-returns-3 c = is-meets3 _ _ _ _ _ (c .intersects .ensures) (c .before .before .same4 .ensures .0) (c .before .if3 .taken)
-
-returns-4 : tie.Need-returns-4
-unfolding saidIn
-returns-4 c =
-    after-pair3 _ _ _ _ _ _
-    (c .before .before .before .before .before .before .before .same .ensures .1) (c .before .before .before .before .before .before .if1 .left)
-    (c .before .before .before .before .same2 .ensures .1) (c .before .before .before .if2 .left)
-    (c .before .same4 .ensures .1) (c .if3 .left)
+returns-3 c =
+    after-pair3 _ _ _ _ _
+    (c .before .before .before .before .same .ensures .1) (c .before .before .before .if1 .left)
+    (c .before .same2 .ensures .1) (c .if2 .left)
 
 pub pair3-spec : {M : Type 1} → statement M
 pair3-spec =
     tie.close
     (tie.spec
+    array-read-t11
     array-read-t14
     array-read-t17
-    array-read-t20
-    array-read-t23
-    array-read-t26
-    array-read-t29
-    array-read-t14-2
-    array-read-t29-2
-    array-read-t26-2
-    array-read-t23-2
-    array-read-t20-2
+    array-read-t11-2
     array-read-t17-2
+    array-read-t14-2
     slice-aggregate-same
     same-requires
     distance-sq-requires
@@ -112,8 +74,4 @@ pair3-spec =
     same-requires-2
     same-requires-3
     returns-2
-    slice-aggregate-same-3
-    same-requires-4
-    intersects-requires
-    returns-3
-    returns-4)
+    returns-3)
