@@ -9,14 +9,14 @@ ghost use Rattle.trees.specs.Pieces.{pieces};
 ghost use Rattle.replies.specs.Programs.{Answers, longest};
 ghost use Rattle.oct.specs.Commands.{callIn};
 use crate::command::Command;
-use octree_changes::create;
-use octree_changes::delete;
-use octree_changes::insert;
-use octree_queries::ask;
-use octree_queries::search;
 use replies::put_figure;
 use replies::put_reply;
 use replies::put_told;
+use tree_changes::create;
+use tree_changes::delete;
+use tree_changes::insert;
+use tree_queries::ask;
+use tree_queries::search;
 
 // Whether a tree is held, and where the next line goes.
 pub struct After {
@@ -45,6 +45,7 @@ fn make(
     ensures within { λ r. ⌜ (at ≤ length (now (out .entry)) → r .at ≤ length (now (out .entry))) ⌝ }
 {
     let reply = create::create(
+        true,
         head,
         nodes,
         links,
@@ -83,7 +84,7 @@ fn insert(
     if !held {
         return put_reply(out, at, 10);
     }
-    let reply = insert::insert(head, nodes, links, points, x, y, z, mark);
+    let reply = insert::insert(true, head, nodes, links, points, x, y, z, mark);
     put_reply(out, at, reply)
 }
 
@@ -106,7 +107,7 @@ fn delete(
     if !held {
         return put_reply(out, at, 10);
     }
-    let reply = delete::delete(head, nodes, links, points, x, y, z, mark);
+    let reply = delete::delete(true, head, nodes, links, points, x, y, z, mark);
     put_reply(out, at, reply)
 }
 
@@ -125,7 +126,7 @@ fn clear(
     if !held {
         return put_reply(out, at, 10);
     }
-    let reply = create::clear(nodes, links);
+    let reply = create::clear(true, nodes, links);
     put_reply(out, at, reply)
 }
 
@@ -148,7 +149,7 @@ fn contains(
     if !held {
         return put_reply(out, at, 10);
     }
-    let yes = ask::contains(head, nodes, links, points, x, y, z, mark);
+    let yes = ask::contains(true, head, nodes, links, points, x, y, z, mark);
     put_figure(out, at, yes)
 }
 
@@ -194,6 +195,7 @@ fn range(
     let mut coords: [u8; 12288] = [0; 12288];
     let mut marks: [u8; 2048] = [0; 2048];
     let told = search::range_search(
+        true,
         head,
         nodes,
         links,
@@ -230,6 +232,7 @@ fn knn(
     let mut coords: [u8; 12288] = [0; 12288];
     let mut marks: [u8; 2048] = [0; 2048];
     let told = search::knn_search(
+        true,
         head,
         nodes,
         links,
@@ -268,6 +271,7 @@ fn area(
     let mut coords: [u8; 12288] = [0; 12288];
     let mut marks: [u8; 2048] = [0; 2048];
     let told = search::range_search_bbox(
+        true,
         head,
         nodes,
         links,

@@ -9,14 +9,14 @@ ghost use Rattle.trees.specs.Pieces.{pieces};
 ghost use Rattle.replies.specs.Programs.{Answers, longest};
 ghost use Rattle.quad.specs.Commands.{callIn};
 use crate::command::Command;
-use quadtree_changes::create;
-use quadtree_changes::delete;
-use quadtree_changes::insert;
-use quadtree_queries::ask;
-use quadtree_queries::search;
 use replies::put_figure;
 use replies::put_reply;
 use replies::put_told;
+use tree_changes::create;
+use tree_changes::delete;
+use tree_changes::insert;
+use tree_queries::ask;
+use tree_queries::search;
 
 // Whether a tree is held, and where the next line goes.
 pub struct After {
@@ -42,7 +42,20 @@ fn make(
     ensures { λ r. ⌜ (at + longest 2 ≤ length (now (out .entry)) → Answers quadtree (some (Create (side x width ∷ side y height ∷ []) capacity)) held (pieces (now (head .entry)) (now (nodes .entry)) (now (links .entry)) (now (points .entry))) (r .held) (pieces (now (head .exit)) (now (nodes .exit)) (now (links .exit)) (now (points .entry))) (now (out .entry)) at (now (out .exit)) (r .at)) ⌝ }
     ensures within { λ r. ⌜ (at ≤ length (now (out .entry)) → r .at ≤ length (now (out .entry))) ⌝ }
 {
-    let reply = create::create(head, nodes, links, points, x, y, width, height, capacity);
+    let reply = create::create(
+        false,
+        head,
+        nodes,
+        links,
+        points,
+        x,
+        y,
+        0.0,
+        width,
+        height,
+        0.0,
+        capacity,
+    );
     let to = put_reply(out, at, reply);
     After {
         held: held | (reply == 0),
@@ -68,7 +81,7 @@ fn insert(
     if !held {
         return put_reply(out, at, 10);
     }
-    let reply = insert::insert(head, nodes, links, points, x, y, mark);
+    let reply = insert::insert(false, head, nodes, links, points, x, y, 0.0, mark);
     put_reply(out, at, reply)
 }
 
@@ -90,7 +103,7 @@ fn delete(
     if !held {
         return put_reply(out, at, 10);
     }
-    let reply = delete::delete(head, nodes, links, points, x, y, mark);
+    let reply = delete::delete(false, head, nodes, links, points, x, y, 0.0, mark);
     put_reply(out, at, reply)
 }
 
@@ -109,7 +122,7 @@ fn clear(
     if !held {
         return put_reply(out, at, 10);
     }
-    let reply = create::clear(nodes, links);
+    let reply = create::clear(false, nodes, links);
     put_reply(out, at, reply)
 }
 
@@ -131,7 +144,7 @@ fn contains(
     if !held {
         return put_reply(out, at, 10);
     }
-    let yes = ask::contains(head, nodes, links, points, x, y, mark);
+    let yes = ask::contains(false, head, nodes, links, points, x, y, 0.0, mark);
     put_figure(out, at, yes)
 }
 
@@ -176,12 +189,14 @@ fn range(
     let mut coords: [u8; 8192] = [0; 8192];
     let mut marks: [u8; 2048] = [0; 2048];
     let told = search::range_search(
+        false,
         head,
         nodes,
         links,
         points,
         x,
         y,
+        0.0,
         radius,
         &mut coords,
         &mut marks,
@@ -209,7 +224,19 @@ fn knn(
     }
     let mut coords: [u8; 8192] = [0; 8192];
     let mut marks: [u8; 2048] = [0; 2048];
-    let told = search::knn_search(head, nodes, links, points, x, y, k, &mut coords, &mut marks);
+    let told = search::knn_search(
+        false,
+        head,
+        nodes,
+        links,
+        points,
+        x,
+        y,
+        0.0,
+        k,
+        &mut coords,
+        &mut marks,
+    );
     put_told(out, at, 2, told.reply, told.count, &coords, &marks)
 }
 
@@ -235,14 +262,17 @@ fn area(
     let mut coords: [u8; 8192] = [0; 8192];
     let mut marks: [u8; 2048] = [0; 2048];
     let told = search::range_search_bbox(
+        false,
         head,
         nodes,
         links,
         points,
         x,
         y,
+        0.0,
         width,
         height,
+        0.0,
         &mut coords,
         &mut marks,
     );
