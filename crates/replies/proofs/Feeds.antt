@@ -18,10 +18,10 @@ use Rattle.record.proofs.Kept.{kept-front}
 use Rattle.record.proofs.Parts.{by-lt, rest-is}
 use Rattle.record.proofs.Streams.{records-line, unended-some, unended-take}
 use Rattle.replies.specs.Lines.{answer, crlf, lines}
-use Rattle.replies.specs.Programs.{Answers, Drains, Fed, Feeds, Keeps, Wrote, longest}
+use Rattle.replies.specs.Programs.{Answers, Drains, Fed, Feeds, Keeps, Puts, longest}
 use Rattle.replies.specs.Runs.{Digests, Run, clip, fed}
 use Rattle.replies.proofs.Runs.{fed-none, fed-one, fed-then}
-use Rattle.replies.proofs.Written.{then}
+use Rattle.replies.proofs.Written.{then, unwritten}
 
 -- ---- room for a line
 pub room-none : (at line size : ℕ) → size < at → false ≡ leb (at + line) size
@@ -66,17 +66,17 @@ nine : (k : Kind) (a : State) → lines k a (none ∷ []) ≡ decimal 9 ++ crlf
 unfolding lines answer number
 nine k a = append-nil (decimal 9 ++ crlf)
 
-pub finished-some : (start : Bool) (text : List ℕ) (n : ℕ) (out out' : List ℕ) (r : ℕ) → n < length text → drop n text ≡ begun start text → Wrote out 0 (decimal 9 ++ crlf) out' r
-    → (k : Kind) (a : State) → Wrote out 0 (lines k a (unended (begun start text))) out' r
+pub finished-some : (start : Bool) (text : List ℕ) (n : ℕ) (out out' : List ℕ) (r : ℕ) → n < length text → drop n text ≡ begun start text → Puts 12 out 0 (decimal 9 ++ crlf) out' r
+    → (k : Kind) (a : State) → Puts 12 out 0 (lines k a (unended (begun start text))) out' r
 finished-some start text n out out' r h e w k a =
     let u : unended (begun start text) ≡ none ∷ [] = ap unended (sym e) ∙ unended-some (drop n text) (omega (arith, length-drop n text)) in
-    subst (λ (l : List ℕ). Wrote out 0 l out' r) (sym (ap (lines k a) u ∙ nine k a)) w
+    subst (λ (l : List ℕ). Puts 12 out 0 l out' r) (sym (ap (lines k a) u ∙ nine k a)) w
 
-pub finished-none : (start : Bool) (text : List ℕ) (n : ℕ) (out : List ℕ) → length text ≤ n → drop n text ≡ begun start text → (k : Kind) (a : State) → Wrote out 0 (lines k a (unended (begun start text))) out 0
+pub finished-none : (start : Bool) (text : List ℕ) (n : ℕ) (out : List ℕ) → length text ≤ n → drop n text ≡ begun start text → (k : Kind) (a : State) → Puts 12 out 0 (lines k a (unended (begun start text))) out 0
 unfolding lines unended
 finished-none start text n out h e k a =
     let u : begun start text ≡ [] = sym e ∙ drop-of-length-le text h in
-    subst (λ (l : List ℕ). Wrote out 0 (lines k a (unended l)) out 0) (sym u) (refl, refl)
+    subst (λ (l : List ℕ). Puts 12 out 0 (lines k a (unended l)) out 0) (sym u) (record { wrote = λ l. unwritten out 0; none = λ l. unwritten out 0 })
 
 -- ---- lines one after the other
 -- what is read of a rest lies inside the text
