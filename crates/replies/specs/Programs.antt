@@ -47,10 +47,3 @@ pub record Feeds (k : Kind) (of : List ℕ → Option Call) (a : State) (start :
   pub fed : Fed k of a start text state start' rest printed
   pub wrote : Wrote out at printed out' r
   pub keeps : Keeps k held' s' state
-
--- Code was fed with a text, and what is printed was handed on piece by piece.
-pub record Drains (k : Kind) (of : List ℕ → Option Call) (a : State) (start : Bool) (text : List ℕ) (held' : Bool) (s' : Pieces) (start' : Bool) (rest : List ℕ) : Type 0 where
-  pub state : State
-  pub printed : List ℕ
-  pub fed : Fed k of a start text state start' rest printed
-  pub keeps : Keeps k held' s' state
