@@ -13,13 +13,11 @@ use crate::stream::feed;
 use record::lines::keep;
 use replies::finish;
 
-// Answers the lines of the text from index `from` up to `end`. Where no line feed is left, what is left is moved to the front; where no room is left, it stays, and comes next.
+// Answers the lines of the text from a place up to `end`. Where no line feed is left, what is left is moved to the front; where no room is left, it stays, and comes next.
 fn digest(
     deep: bool,
-    from: usize,
+    place: Place,
     end: usize,
-    start: bool,
-    held: bool,
     head: &mut [u8],
     nodes: &mut [u8],
     links: &mut [u8],
@@ -27,40 +25,48 @@ fn digest(
     text: &mut [u8],
     out: &mut [u8],
 ) -> Place
-    requires { ⌜ (from ≤ end) × (end ≤ length (now text)) × (longest (kind deep .axes) ≤ length (now out)) ⌝ }
-    ensures { λ r. ⌜ ((a : State) → Keeps (kind deep) held (pieces (now (head .entry)) (now (nodes .entry)) (now (links .entry)) (now (points .entry))) a → Digests (kind deep) (says deep) a start (bytesOf from end (now (text .entry))) r (pieces (now (head .exit)) (now (nodes .exit)) (now (links .exit)) (now (points .exit))) (now (text .exit)) (now (out .entry)) (now (out .exit))) ⌝ }
+    requires { ⌜ (place .from ≤ end) × (end ≤ length (now text)) × (longest (kind deep .axes) ≤ length (now out)) ⌝ }
+    ensures { λ r. ⌜ ((a : State) → Keeps (kind deep) (place .held) (pieces (now (head .entry)) (now (nodes .entry)) (now (links .entry)) (now (points .entry))) a → Digests (kind deep) (says deep) a (place .start) (bytesOf (place .from) end (now (text .entry))) r (pieces (now (head .exit)) (now (nodes .exit)) (now (links .exit)) (now (points .exit))) (now (text .exit)) (now (out .entry)) (now (out .exit))) ⌝ }
     ensures sits { λ r. ⌜ Sits (kind deep) r (now (text .exit)) (now (out .exit)) ⌝ }
 {
+    let from = place.from;
+    let first = place.start;
+    let has = place.held;
     let s = feed(
         deep,
         &text[from..end],
-        start,
-        held,
+        first,
+        has,
         head,
         nodes,
         links,
         points,
         out,
     );
+    let start = s.start;
+    let held = s.held;
+    let ready = s.to;
     let at = from + s.read;
     if s.full {
+        let next = Next::Work;
         return Place {
             from: at,
             end,
-            start: s.start,
-            held: s.held,
-            ready: s.to,
-            next: Next::Work,
+            start,
+            held,
+            ready,
+            next,
         };
     }
-    let m = keep(text, at, end);
+    let end = keep(text, at, end);
+    let next = Next::Read;
     Place {
         from: 0,
-        end: m,
-        start: s.start,
-        held: s.held,
-        ready: s.to,
-        next: Next::Read,
+        end,
+        start,
+        held,
+        ready,
+        next,
     }
 }
 
@@ -88,53 +94,29 @@ pub fn work(
     let held = place.held;
     let next = place.next;
     match next {
-        Next::Work => digest(
-            deep,
-            from,
-            end,
-            start,
-            held,
-            head,
-            nodes,
-            links,
-            points,
-            text,
-            out,
-        ),
+        Next::Work => digest(deep, place, end, head, nodes, links, points, text, out),
         Next::Read => {
             if got > 0 {
                 let to = end + got;
-                return digest(
-                    deep,
-                    from,
-                    to,
-                    start,
-                    held,
-                    head,
-                    nodes,
-                    links,
-                    points,
-                    text,
-                    out,
-                );
+                return digest(deep, place, to, head, nodes, links, points, text, out);
             }
             let ready = finish(&text[from..end], start, out);
             Place {
                 from: end,
+                ready,
+                next: Next::Done,
                 end,
                 start,
                 held,
-                ready,
-                next: Next::Done,
             }
         }
         Next::Done => Place {
+            ready: 0,
+            next: Next::Done,
             from,
             end,
             start,
             held,
-            ready: 0,
-            next: Next::Done,
         },
     }
 }
