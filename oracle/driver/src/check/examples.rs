@@ -69,8 +69,9 @@ pub fn streams<S: Space>() -> Vec<(&'static str, Vec<u8>)> {
         .collect()
 }
 
-/// The examples as one stream. Before them stand records that find no tree, the first with the mark before it and CRLF behind it; behind them records that are not
-/// understood, the largest whole number, and a last record with no line end.
+/// The examples as one stream. Before them stand records that find no tree, the first with the mark before it
+/// and CRLF behind it; behind them records that are not understood, the largest whole number, and a last
+/// record with no line end.
 pub fn joined<S: Space>() -> Vec<u8> {
     let point = vec!["3FF0000000000000"; S::AXES].join(",");
     let fewer = vec!["3FF0000000000000"; S::AXES - 1].join(",");
