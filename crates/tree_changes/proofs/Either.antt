@@ -1,7 +1,7 @@
 -- What a tree's call promises, said of either tree.
 use mathlib.Core.Path.{_≡_, subst⁻¹}
 use mathlib.Core.Bool.{Bool, true, false}
-use mathlib.Core.List.{List, [], _∷_}
+use mathlib.Core.List.{[], _∷_}
 use Prim.Native.Nat.{ℕ}
 use lib.Ieee.{Float}
 use Rattle.model.specs.Calls.{Clear, Create, Delete, Insert, octree, quadtree}
