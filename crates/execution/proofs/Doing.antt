@@ -1,6 +1,6 @@
 -- What a command does, from what the calls of a tree promise. Over both trees.
-use Prim.Native.Nat.{ℕ, _+_, _*_, _/_, _≤_, _<_, min}
-use mathlib.Core.Path.{_≡_, refl, sym, ap, _∙_, subst}
+use Prim.Native.Nat.{ℕ, _+_, _≤_, _<_}
+use mathlib.Core.Path.{_≡_, sym, ap, _∙_, subst}
 use mathlib.Core.Bool.{Bool, true, false, cond, not}
 use mathlib.Core.List.{List, [], _∷_}
 use mathlib.Core.Option.{some}
@@ -13,7 +13,7 @@ use borrow.Author.Tests.{leb-false, leb-true}
 use denote.Enum.Declared
 use mir.Val.{hasKey}
 use types.Run.{OneOf, miss}
-use Rattle.model.specs.Calls.{Ask, Box, Nearest, Query, Radius, Call}
+use Rattle.model.specs.Calls.{Ask, Box, Nearest, Radius}
 use Rattle.trees.specs.Pieces.{Pieces, SearchesHeld, roomFor}
 use Rattle.tree.specs.Depths.{coords, kind, region}
 use Rattle.replies.specs.Printed.{PutsTold}
