@@ -36,21 +36,23 @@ pub struct Benchmark {
     pub what: String,
     pub size: usize,
     pub input: &'static str,
+    /// What stands beside ours.
+    pub beside: &'static str,
     pub runs: usize,
     pub ours: Side,
-    pub rust: Side,
+    pub other: Side,
 }
 
 impl Benchmark {
     /// Whether both sides give the same on every input.
     pub fn agrees(&self) -> bool {
         let inputs = if self.ours.before.is_some() { 1 } else { INPUTS };
-        (0..inputs).all(|input| self.ours.answer(input) == self.rust.answer(input))
+        (0..inputs).all(|input| self.ours.answer(input) == self.other.answer(input))
     }
 }
 
 impl Display for Benchmark {
     fn fmt(&self, f: &mut Formatter) -> Result {
-        write!(f, "{}, {}, {}", self.what, self.size, self.input)
+        write!(f, "{}, {}, {}, beside {}", self.what, self.size, self.input, self.beside)
     }
 }

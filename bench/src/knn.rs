@@ -55,9 +55,10 @@ pub fn all() -> Vec<Benchmark> {
             what: "512 offers to a table of k".into(),
             size: k,
             input,
+            beside: "the Rust",
             runs: RUNS,
             ours: Side::new(move |i| ours(k, &mine[i])),
-            rust: Side::new(move |i| rust(k, &theirs[i])),
+            other: Side::new(move |i| rust(k, &theirs[i])),
         }
     };
     cases.map(benchmark).collect()

@@ -32,7 +32,7 @@ fn time(side: &Side, rounds: usize) -> Duration {
 /// How many rounds make a run: whole turns of the inputs.
 fn rounds(benchmark: &Benchmark) -> usize {
     let mut rounds = INPUTS;
-    while time(&benchmark.ours, rounds).min(time(&benchmark.rust, rounds)) < LEAST {
+    while time(&benchmark.ours, rounds).min(time(&benchmark.other, rounds)) < LEAST {
         rounds *= 2;
     }
     rounds
@@ -45,10 +45,10 @@ pub fn measure(benchmark: &Benchmark) -> Figures {
     Figures::of(benchmark.runs, |ours_first| {
         if ours_first {
             let ours = run(&benchmark.ours);
-            (ours, run(&benchmark.rust))
+            (ours, run(&benchmark.other))
         } else {
-            let rust = run(&benchmark.rust);
-            (run(&benchmark.ours), rust)
+            let other = run(&benchmark.other);
+            (run(&benchmark.ours), other)
         }
     })
 }

@@ -60,7 +60,7 @@ fn megabytes(bytes: usize) -> f64 {
 
 impl Line {
     fn print(&self) {
-        let Line { tree, input, printed, figures: Figures { ours, rust, ratio, low, high } } = self;
+        let Line { tree, input, printed, figures: Figures { ours, other: rust, ratio, low, high } } = self;
         let (size, printed) = (megabytes(input.bytes.len()), megabytes(*printed));
         print!("| {tree}: {} | {} | {size:.1} | {printed:.1} ", input.what, input.records);
         print!("| {:.1} | {:.1} | {:.0} | {:.0} ", ours * 1e3, rust * 1e3, size / ours, size / rust);
@@ -68,7 +68,7 @@ impl Line {
     }
 
     fn csv(&self) -> String {
-        let Line { tree, input, printed, figures: Figures { ours, rust, ratio, low, high } } = self;
+        let Line { tree, input, printed, figures: Figures { ours, other: rust, ratio, low, high } } = self;
         let Input { name, records, bytes, .. } = input;
         format!(
             "{tree},{name},{records},{},{printed},{ours:.6},{rust:.6},{ratio:.4},{low:.4},{high:.4}\n",

@@ -2,17 +2,17 @@
 //! calls rely on a sound tree as the Rust's do; the public ones test for that first, at every call.
 
 mod calls;
+mod case;
+mod others;
 mod ours;
 
-use crate::benchmark::{Benchmark, Side, INPUTS};
+use crate::benchmark::{Benchmark, Side};
 use crate::measure::RUNS;
 use calls::{Calls, Inner, Public, Sound};
+use case::Case;
 use oracle::random::Random;
 use oracle::space::Space;
-use ours::Ours;
 use ralikudo::generic::{Axes, Library, Point, Volume};
-use spart::index::SpatialIndex;
-use std::cell::RefCell;
 use std::hint::black_box;
 use std::marker::PhantomData;
 use std::rc::Rc;
@@ -26,12 +26,39 @@ const FEW_RUNS: usize = 11;
 /// Questions of one round of `contains`.
 const ASKED: usize = 16;
 
+/// The capacity at which a tree stands beside other things than the Rust.
+const USUAL: u32 = 16;
+
 #[derive(Clone, Copy)]
 pub enum Query {
     Radius(f64),
     /// The extent on each axis; the corner is the input's place.
     InBox(f64),
     Nearest(u32),
+}
+
+/// What one round does.
+#[derive(Clone, Copy)]
+pub enum Call {
+    /// All points into an empty tree.
+    Inserts,
+    /// All points out of a full tree, in another order than they came.
+    Deletes,
+    Contains,
+    Search(Query),
+}
+
+impl Call {
+    fn name(self) -> String {
+        match self {
+            Call::Inserts => "512 inserts".into(),
+            Call::Deletes => "512 deletes".into(),
+            Call::Contains => "16 contains".into(),
+            Call::Search(Query::Radius(_)) => "radius search".into(),
+            Call::Search(Query::InBox(_)) => "box search".into(),
+            Call::Search(Query::Nearest(k)) => format!("{k} nearest"),
+        }
+    }
 }
 
 pub fn area<const N: usize>() -> Volume<N> {
@@ -41,6 +68,16 @@ pub fn area<const N: usize>() -> Volume<N> {
 /// A number that depends on every payload and its place.
 fn read(payloads: impl Iterator<Item = u32>) -> u64 {
     payloads.zip(1..).map(|(payload, place)| u64::from(payload + 1) * place).sum()
+}
+
+/// A number that depends on every payload and not on their order: the sum of their bits, well mixed.
+fn unordered(payloads: impl Iterator<Item = u32>) -> u64 {
+    let mixed = |payload: u32| {
+        let x = (u64::from(payload) + 1).wrapping_mul(0x9E37_79B9_7F4A_7C15);
+        let x = (x ^ (x >> 30)).wrapping_mul(0xBF58_476D_1CE4_E5B9);
+        x ^ (x >> 27)
+    };
+    payloads.map(mixed).fold(0, u64::wrapping_add)
 }
 
 /// Anywhere, or around eight centres, closer and closer.
@@ -62,173 +99,6 @@ fn points<const N: usize>(input: &str) -> Vec<Point<N>> {
     places(input, MANY, 1).into_iter().zip(0..).map(|(at, payload)| Point { at, payload }).collect()
 }
 
-/// Our tree, called by C, and the Rust's of S, with the same points inserted in the same order.
-struct Case<C, S, const N: usize> {
-    sides: PhantomData<(C, S)>,
-    input: &'static str,
-    capacity: u32,
-    /// Which of our calls they are.
-    which: &'static str,
-    runs: usize,
-    points: Rc<Vec<Point<N>>>,
-}
-
-impl<C: Calls<N>, S: Space, const N: usize> Case<C, S, N>
-where
-    Library: Axes<N>,
-{
-    fn item(p: &Point<N>) -> S::Item {
-        S::item(&p.at, p.payload)
-    }
-
-    fn volume(v: Volume<N>) -> S::Volume {
-        S::volume(&[v.corner, v.extent].concat())
-    }
-
-    fn ours(&self) -> Ours<C, N> {
-        let mut ours = Ours::new(self.capacity);
-        for point in self.points.iter() {
-            assert_eq!(ours.insert(point), 0, "every point finds room");
-        }
-        ours
-    }
-
-    fn empty(&self) -> S::Tree {
-        S::tree(&Self::volume(area()), self.capacity as usize).expect("the capacity is not 0")
-    }
-
-    fn rust(&self) -> S::Tree {
-        let mut rust = self.empty();
-        let stored = self.points.iter().filter(|point| stored(rust.insert(Self::item(point)))).count();
-        assert_eq!(stored, MANY, "every point is inside");
-        rust
-    }
-
-    fn benchmark(&self, what: &str, ours: Side, rust: Side) -> Benchmark {
-        let (size, input, runs) = (self.capacity as usize, self.input, self.runs);
-        Benchmark { what: format!("{}: {what}{}", S::NAME, self.which), size, input, runs, ours, rust }
-    }
-
-    /// All points into an empty tree.
-    fn insert(&self) -> Benchmark {
-        let (mine, theirs) = (self.points.clone(), self.points.clone());
-        let capacity = self.capacity;
-        let ours = Rc::new(RefCell::new(Ours::<C, N>::new(capacity)));
-        let again = ours.clone();
-        let ours = Side::prepared(
-            move || again.borrow_mut().empty(capacity),
-            move |_| {
-                let mut ours = ours.borrow_mut();
-                mine.iter().map(|p| 1 - ours.insert(p)).sum()
-            },
-        );
-        let empty = self.empty();
-        let rust = Rc::new(RefCell::new(empty.clone()));
-        let again = rust.clone();
-        let rust = Side::prepared(
-            move || *again.borrow_mut() = empty.clone(),
-            move |_| {
-                let mut rust = rust.borrow_mut();
-                theirs.iter().map(|p| u64::from(stored(rust.insert(Self::item(p))))).sum()
-            },
-        );
-        self.benchmark("512 inserts", ours, rust)
-    }
-
-    /// All points out of the full tree, in another order than they came.
-    fn delete(&self) -> Benchmark {
-        let mut order = self.points.to_vec();
-        Random::new(3).shuffle(&mut order);
-        let items: Vec<S::Item> = order.iter().map(Self::item).collect();
-        let full = self.ours();
-        let whole = full.pieces.clone();
-        let ours = Rc::new(RefCell::new(full));
-        let again = ours.clone();
-        let ours = Side::prepared(
-            move || *again.borrow_mut().pieces = (*whole).clone(),
-            move |_| {
-                let mut ours = ours.borrow_mut();
-                order.iter().map(|p| 1 - ours.delete(p)).sum()
-            },
-        );
-        let whole = self.rust();
-        let rust = Rc::new(RefCell::new(whole.clone()));
-        let again = rust.clone();
-        let rust = Side::prepared(
-            move || *again.borrow_mut() = whole.clone(),
-            move |_| {
-                let mut rust = rust.borrow_mut();
-                items.iter().map(|p| u64::from(rust.delete(p))).sum()
-            },
-        );
-        self.benchmark("512 deletes", ours, rust)
-    }
-
-    /// Held points and others, half and half.
-    fn contains(&self) -> Benchmark {
-        let mut random = Random::new(5);
-        let asked: Vec<Point<N>> = (0..INPUTS * ASKED)
-            .map(|i| {
-                let point = *random.pick(&self.points);
-                Point { payload: if i % 2 == 0 { point.payload } else { 9999 }, ..point }
-            })
-            .collect();
-        let items: Vec<S::Item> = asked.iter().map(Self::item).collect();
-        let (ours, rust) = (self.ours(), self.rust());
-        let ours = Side::new(move |i| {
-            asked[ASKED * i..ASKED * (i + 1)].iter().map(|p| u64::from(ours.contains(p))).sum()
-        });
-        let rust = Side::new(move |i| {
-            items[ASKED * i..ASKED * (i + 1)].iter().map(|p| u64::from(rust.contains(p))).sum()
-        });
-        self.benchmark("16 contains", ours, rust)
-    }
-
-    fn search(&self, what: &str, query: Query) -> Benchmark {
-        let places = places(self.input, INPUTS, 2);
-        let centres: Vec<S::Item> = places.iter().map(|at| S::item(at, 0)).collect();
-        let extent = if let Query::InBox(extent) = query { [extent; N] } else { [0.0; N] };
-        let boxes: Vec<S::Volume> =
-            places.iter().map(|at| Self::volume(Volume { corner: *at, extent })).collect();
-        let (ours, rust) = (RefCell::new(self.ours()), self.rust());
-        let ours = Side::new(move |i| ours.borrow_mut().search(query, places[i]));
-        let rust = Side::new(move |i| {
-            let found = match query {
-                Query::Radius(radius) => rust.range_search::<S::Metric>(&centres[i], radius),
-                Query::InBox(_) => rust.range_search_bbox(&boxes[i]),
-                Query::Nearest(k) => rust.knn_search::<S::Metric>(&centres[i], k as usize),
-            };
-            read(found.into_iter().map(S::payload))
-        });
-        self.benchmark(what, ours, rust)
-    }
-
-    /// The soundness test against the sum of all words.
-    fn sound(&self) -> Benchmark
-    where
-        Inner: Sound<N>,
-    {
-        let (ours, pieces) = (self.ours(), self.ours());
-        let ours = Side::new(move |_| u64::from(ours.sound()));
-        let rust = Side::new(move |_| u64::from(black_box(pieces.sum()) > 0));
-        self.benchmark("the soundness test; beside it a sum of all words", ours, rust)
-    }
-
-    fn all(&self, sizes: Sizes) -> Vec<Benchmark> {
-        let mut all = vec![self.insert(), self.delete(), self.contains()];
-        all.push(self.search("radius search", Query::Radius(sizes.radius)));
-        all.push(self.search("box search", Query::InBox(sizes.extent)));
-        for k in [1, 8, 64] {
-            all.push(self.search(&format!("{k} nearest"), Query::Nearest(k)));
-        }
-        all
-    }
-}
-
-fn stored<E>(insert: Result<bool, E>) -> bool {
-    matches!(insert, Ok(true))
-}
-
 /// What differs from tree to tree.
 #[derive(Clone, Copy)]
 struct Sizes {
@@ -240,32 +110,93 @@ struct Sizes {
     extent: f64,
 }
 
-/// All lines of a tree: the inner calls, the public ones, and the soundness test.
+impl Sizes {
+    fn calls(self) -> [Call; 8] {
+        let search = [Query::Radius(self.radius), Query::InBox(self.extent), 1.into(), 8.into(), 64.into()];
+        let [a, b, c, d, e] = search.map(Call::Search);
+        [Call::Inserts, Call::Deletes, Call::Contains, a, b, c, d, e]
+    }
+}
+
+impl From<u32> for Query {
+    fn from(k: u32) -> Query {
+        Query::Nearest(k)
+    }
+}
+
+/// The lines of one input and capacity, in the table's order.
+struct Lines<S, const N: usize> {
+    case: Case<S, N>,
+    all: Vec<Benchmark>,
+}
+
+impl<S: Space, const N: usize> Lines<S, N>
+where
+    Library: Axes<N>,
+    Inner: Calls<N> + Sound<N>,
+{
+    fn line(&mut self, what: &str, beside: &'static str, runs: usize, ours: Side, other: Side) {
+        let (size, input) = (self.case.capacity as usize, self.case.input);
+        let what = format!("{}: {what}", S::NAME);
+        self.all.push(Benchmark { what, size, input, beside, runs, ours, other });
+    }
+
+    /// Our inner or our public calls beside the Rust's.
+    fn beside_rust<C: Calls<N>>(&mut self, calls: &[Call], which: &str, runs: usize) {
+        for &call in calls {
+            let (ours, rust) = (self.case.ours::<C>(call, false), self.case.rust(call));
+            self.line(&format!("{}, {which}", call.name()), "the Rust", runs, ours, rust);
+        }
+    }
+
+    /// The soundness test, and what it costs the public calls.
+    fn soundness(&mut self, calls: &[Call]) {
+        let (ours, pieces) = (self.case.full::<Inner>(), self.case.full::<Inner>());
+        let ours = Side::new(move |_| u64::from(ours.sound()));
+        let sum = Side::new(move |_| u64::from(black_box(pieces.sum()) > 0));
+        self.line("the soundness test", "a sum of all words", RUNS, ours, sum);
+        if self.case.capacity == USUAL {
+            for &call in calls {
+                let sides = (self.case.ours::<Public>(call, false), self.case.ours::<Inner>(call, false));
+                self.line(&format!("{}, public", call.name()), "ours, inner", FEW_RUNS, sides.0, sides.1);
+            }
+        }
+    }
+
+    fn beside_others(&mut self, calls: &[Call]) {
+        for choice in others::choices() {
+            for &call in calls {
+                if let Some(other) = self.case.other(choice, call) {
+                    let ours = self.case.ours::<Inner>(call, true);
+                    self.line(&format!("{}, inner", call.name()), choice.name, RUNS, ours, other);
+                }
+            }
+        }
+    }
+}
+
+/// All lines of a tree.
 fn lines<S: Space, const N: usize>(sizes: Sizes) -> Vec<Benchmark>
 where
     Library: Axes<N>,
     Inner: Calls<N> + Sound<N>,
 {
-    let mut all = Vec::new();
+    let (mut all, calls) = (Vec::new(), sizes.calls());
     for (input, capacities) in [("uniform", sizes.uniform), ("clustered", sizes.clustered)] {
         let points = Rc::new(points(input));
         for &capacity in capacities {
-            all.extend(case::<Inner, S, N>(input, capacity, ", inner", RUNS, &points).all(sizes));
-            all.extend(case::<Public, S, N>(input, capacity, ", public", FEW_RUNS, &points).all(sizes));
-            all.push(case::<Inner, S, N>(input, capacity, "", RUNS, &points).sound());
+            let case = Case { rust: PhantomData, input, capacity, points: points.clone() };
+            let mut lines = Lines::<S, N> { case, all: Vec::new() };
+            lines.beside_rust::<Inner>(&calls, "inner", RUNS);
+            lines.beside_rust::<Public>(&calls, "public", FEW_RUNS);
+            lines.soundness(&calls);
+            if capacity == USUAL {
+                lines.beside_others(&calls);
+            }
+            all.append(&mut lines.all);
         }
     }
     all
-}
-
-fn case<C, S, const N: usize>(
-    input: &'static str,
-    capacity: u32,
-    which: &'static str,
-    runs: usize,
-    points: &Rc<Vec<Point<N>>>,
-) -> Case<C, S, N> {
-    Case { sides: PhantomData, input, capacity, which, runs, points: points.clone() }
 }
 
 pub fn all() -> Vec<Benchmark> {

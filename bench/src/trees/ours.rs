@@ -1,7 +1,7 @@
 //! A tree of ours in memory of the benchmark's own.
 
 use super::calls::{Calls, Inner, Sound};
-use super::{area, read, Query};
+use super::{area, Query};
 use ralikudo::generic::{Answer, Axes, Library, Pieces, Point, Shared, Volume, MOST_POINTS};
 use std::marker::PhantomData;
 
@@ -48,8 +48,8 @@ where
         yes == 1
     }
 
-    /// A search, and a number made from its answer.
-    pub fn search(&mut self, query: Query, at: [f64; N]) -> u64 {
+    /// The payloads of a search's answer.
+    pub fn search(&mut self, query: Query, at: [f64; N]) -> impl Iterator<Item = u32> + '_ {
         let Ours { pieces, coords, payloads, .. } = self;
         let (tree, answer) = (pieces.shared(), Answer { coords, payloads });
         let mut count = 0;
@@ -62,7 +62,7 @@ where
             Query::Nearest(k) => C::nearest(tree, at, k, answer, &mut count),
         };
         let payload = |four: &[u8]| u32::from_le_bytes([four[0], four[1], four[2], four[3]]);
-        read(self.payloads.chunks_exact(4).take(count as usize).map(payload))
+        self.payloads.chunks_exact(4).take(count as usize).map(payload)
     }
 
     pub fn sound(&self) -> bool

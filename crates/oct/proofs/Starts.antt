@@ -18,16 +18,16 @@ use Rattle.replies.specs.Runs.{Run}
 use Rattle.replies.proofs.History.{held-after-records, understoodOnly}
 use Rattle.replies.proofs.Runs.{any-cutting}
 use Rattle.replies.proofs.Starts.{none-yet}
-use Rattle.oct.specs.Commands.{says}
+use Rattle.commands.specs.Commands.{says}
 
 -- the arrays of `main`
 pub starts : Keeps octree false (pieces (replicate 56 0) (replicate 5248 0) (replicate 2052 0) (replicate 16416 0)) broken
 unfolding words
 starts = none-yet octree (pieces (replicate 56 0) (replicate 5248 0) (replicate 2052 0) (replicate 16416 0)) (record { head = refl; nodes = refl; links = refl; points = refl }) refl
 
-pub prints : {chunks : List (List ℕ)} {out : List ℕ} → Run octree says broken true [] chunks out → out ≡ lines octree broken (records says true (flatten chunks))
-prints r = any-cutting octree says r
+pub prints : {chunks : List (List ℕ)} {out : List ℕ} → Run octree (says true) broken true [] chunks out → out ≡ lines octree broken (records (says true) true (flatten chunks))
+prints r = any-cutting octree (says true) r
 
 -- after any input the points held are the accepted inserts less the successful deletes
-pub held-after-input : (t : List ℕ) → Fine octree (state octree broken (records says true t)) (ledger octree broken (understoodOnly (records says true t)) blank)
+pub held-after-input : (t : List ℕ) → Fine octree (state octree broken (records (says true) true t)) (ledger octree broken (understoodOnly (records (says true) true t)) blank)
 held-after-input t = held-after-records octree word-oct octree-regular t

@@ -18,16 +18,16 @@ use Rattle.replies.specs.Runs.{Run}
 use Rattle.replies.proofs.History.{held-after-records, understoodOnly}
 use Rattle.replies.proofs.Runs.{any-cutting}
 use Rattle.replies.proofs.Starts.{none-yet}
-use Rattle.quad.specs.Commands.{says}
+use Rattle.commands.specs.Commands.{says}
 
 -- the arrays of `main`
 pub starts : Keeps quadtree false (pieces (replicate 40 0) (replicate 5504 0) (replicate 2052 0) (replicate 12312 0)) broken
 unfolding words
 starts = none-yet quadtree (pieces (replicate 40 0) (replicate 5504 0) (replicate 2052 0) (replicate 12312 0)) (record { head = refl; nodes = refl; links = refl; points = refl }) refl
 
-pub prints : {chunks : List (List ℕ)} {out : List ℕ} → Run quadtree says broken true [] chunks out → out ≡ lines quadtree broken (records says true (flatten chunks))
-prints r = any-cutting quadtree says r
+pub prints : {chunks : List (List ℕ)} {out : List ℕ} → Run quadtree (says false) broken true [] chunks out → out ≡ lines quadtree broken (records (says false) true (flatten chunks))
+prints r = any-cutting quadtree (says false) r
 
 -- after any input the points held are the accepted inserts less the successful deletes
-pub held-after-input : (t : List ℕ) → Fine quadtree (state quadtree broken (records says true t)) (ledger quadtree broken (understoodOnly (records says true t)) blank)
+pub held-after-input : (t : List ℕ) → Fine quadtree (state quadtree broken (records (says false) true t)) (ledger quadtree broken (understoodOnly (records (says false) true t)) blank)
 held-after-input t = held-after-records quadtree word-quad quadtree-regular t

@@ -49,16 +49,26 @@ strip-none (b ∷ s) h = absurd (omega arith)
 -- the bytes after the mark and before the carriage return
 pub stands : (start : Bool) (s : List ℕ) (from n : ℕ) → from ≤ length s → drop from s ≡ begun start s
     → n ≤ length (take (length s - from) (drop from s)) → take n (take (length s - from) (drop from s)) ≡ strip (take (length s - from) (drop from s))
-    → (from ≤ from + n) × (from + n ≤ length s) × (leb n 128 ≡ leb (length (strip (begun start s))) 128) × (take (from + n - from) (drop from s) ≡ strip (begun start s))
+    → (from ≤ from + n) × (from + n ≤ length s) × (leb n 128 ≡ leb (length (strip (begun start s))) 128) × (take (from + n - from) (drop from s) ≡ strip (begun start s)) × (drop from s ≡ begun start s)
 stands start s from n h e l t = (
   omega arith,
   omega (arith, ap length (rest-is s from), length-drop from s),
   ap (λ (k : ℕ). leb k 128) (sym (length-take-le n (drop from s) (omega (arith, ap length (rest-is s from)))) ∙ ap length got),
   ap (λ (k : ℕ). take k (drop from s)) {x = from + n - from} {y = n} (omega arith) ∙ got,
+  e,
 )
   where
     got : take n (drop from s) ≡ strip (begun start s)
     got = ap (take n) (sym (rest-is s from)) ∙ t ∙ ap strip (rest-is s from ∙ e)
+
+-- there is one such place
+pub stands-once : (start : Bool) (s : List ℕ) (from to from' to' : ℕ)
+    → (from ≤ to) × (to ≤ length s) × (take (to - from) (drop from s) ≡ strip (begun start s)) × (drop from s ≡ begun start s)
+    → (from' ≤ to') × (to' ≤ length s) × (take (to' - from') (drop from' s) ≡ strip (begun start s)) × (drop from' s ≡ begun start s) → (from ≡ from') × (to ≡ to')
+stands-once start s from to from' to' f g = (
+  omega (arith, f .0, f .1, g .0, g .1, length-drop from s, length-drop from' s, ap length (f .3), ap length (g .3)),
+  omega (arith, f .0, f .1, g .0, g .1, length-drop from s, length-drop from' s, ap length (f .3), ap length (g .3), length-take (to - from) (drop from s), length-take (to' - from') (drop from' s), ap length (f .2), ap length (g .2)),
+)
 
 -- ---- a line that has ended
 

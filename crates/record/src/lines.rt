@@ -45,7 +45,7 @@ fn stripped(s: &[u8]) -> usize
 
 // Where the record of a line stands, which is given without its line feed.
 pub fn line_of(s: &[u8], start: bool) -> Line
-    ensures { λ r. ⌜ (r .from ≤ r .to) × (r .to ≤ length (now (s .entry))) × (r .fits ≡ leb (length (strip (begun start (now (s .entry))))) 128) × (take (r .to - r .from) (drop (r .from) (now (s .entry))) ≡ strip (begun start (now (s .entry)))) ⌝ }
+    ensures { λ r. ⌜ (r .from ≤ r .to) × (r .to ≤ length (now (s .entry))) × (r .fits ≡ leb (length (strip (begun start (now (s .entry))))) 128) × (take (r .to - r .from) (drop (r .from) (now (s .entry))) ≡ strip (begun start (now (s .entry)))) × (drop (r .from) (now (s .entry)) ≡ begun start (now (s .entry))) ⌝ }
 {
     let from = skipped(s, start);
     let n = stripped(&s[from..]);

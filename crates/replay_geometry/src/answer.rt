@@ -1,7 +1,13 @@
 // What is answered, and how it is shown.
-ghost use Prim.Native.Nat.{_≤_};
+ghost use mathlib.Core.Path.{_≡_};
+ghost use mathlib.Core.List.{[], _∷_, _++_};
+ghost use Prim.Native.Nat.{_+_, _<_, _≤_};
 ghost use lib.ListN.{length};
-use crate::hex;
+ghost use lib.Seq.{sets};
+ghost use Rattle.record.specs.Numbers as Numbers;
+ghost use Rattle.record.specs.Numbers.{hex};
+ghost use Rattle.replay_geometry.specs.Shown.{boxed, shown, line, saidIn};
+ghost use Rattle.geometry.specs.Sides.{sides2, sides3};
 use geometry::plane::Rectangle;
 use geometry::space::Cube;
 
@@ -14,78 +20,80 @@ pub enum Answer {
     Unknown,
 }
 
-// A number and a comma at a place, and the next place; where there is no room nothing is written.
-fn put(out: &mut [u8], at: usize, x: f64) -> usize
-    requires { ⌜ at ≤ length (now out) ⌝ }
-    ensures { λ r. ⌜ r ≤ length (now (out .exit)) ⌝ }
+// The character of a digit.
+fn glyph(d: u8) -> u8
+    requires { ⌜ d < 16 ⌝ }
+    ensures { λ r. ⌜ r ≡ Numbers.glyph d ⌝ }
 {
-    if out.len() - at < 17 {
-        return at;
+    if d < 10 { 48 + d } else { 55 + d }
+}
+
+// Writes the digits of a number and a byte after them, and returns the place after that.
+fn put(out: &mut [u8], at: usize, x: f64, end: u8) -> usize
+    requires { ⌜ at + 17 ≤ length (now out) ⌝ }
+    ensures { λ _. ⌜ now (out .exit) ≡ sets (now (out .entry)) at (hex x ++ (end ∷ [])) ⌝ }
+    ensures { λ r. ⌜ r ≡ at + 17 ⌝ }
+{
+    let mut left = floats::to_bits(x);
+    let mut k = 16;
+    while k > 0 {
+        k -= 1;
+        out[at + k] = glyph((left % 16) as u8);
+        left = left / 16;
     }
-    hex::write(out, at, floats::to_bits(x));
-    out[at + 16] = b',';
+    out[at + 16] = end;
     at + 17
 }
 
-// A line of one byte.
+// Writes a line of one byte.
 fn mark(out: &mut [u8], b: u8) -> usize
-    ensures { λ r. ⌜ r ≤ length (now (out .exit)) ⌝ }
+    requires { ⌜ 2 ≤ length (now out) ⌝ }
+    ensures { λ _. ⌜ now (out .exit) ≡ sets (now (out .entry)) 0 (b ∷ 10 ∷ []) ⌝ }
+    ensures { λ r. ⌜ r ≡ 2 ⌝ }
 {
-    if out.len() < 2 {
-        return 0;
-    }
     out[0] = b;
-    out[1] = b'\n';
+    out[1] = 10;
     2
 }
 
-// The line ends where the last comma stands.
-fn finish(out: &mut [u8], n: usize) -> usize
-    requires { ⌜ n ≤ length (now out) ⌝ }
-    ensures { λ r. ⌜ r ≤ length (now (out .exit)) ⌝ }
+fn put_quadrant(out: &mut [u8], q: Rectangle) -> usize
+    requires { ⌜ 68 ≤ length (now out) ⌝ }
+    ensures { λ _. ⌜ now (out .exit) ≡ sets (now (out .entry)) 0 (shown (boxed (sides2 q))) ⌝ }
+    ensures { λ r. ⌜ r ≡ 68 ⌝ }
 {
-    if n == 0 {
+    let a = put(out, 0, q.x, b',');
+    let b = put(out, a, q.y, b',');
+    let c = put(out, b, q.width, b',');
+    put(out, c, q.height, 10)
+}
+
+fn put_octant(out: &mut [u8], o: Cube) -> usize
+    requires { ⌜ 102 ≤ length (now out) ⌝ }
+    ensures { λ _. ⌜ now (out .exit) ≡ sets (now (out .entry)) 0 (shown (boxed (sides3 o))) ⌝ }
+    ensures { λ r. ⌜ r ≡ 102 ⌝ }
+{
+    let a = put(out, 0, o.x, b',');
+    let b = put(out, a, o.y, b',');
+    let c = put(out, b, o.z, b',');
+    let d = put(out, c, o.width, b',');
+    let e = put(out, d, o.height, b',');
+    put(out, e, o.depth, 10)
+}
+
+// Writes the line of an answer to the front of out, where there is room for any line, and returns its length.
+pub fn show(a: Answer, out: &mut [u8]) -> usize
+    ensures { λ _. ⌜ now (out .exit) ≡ sets (now (out .entry)) 0 (line (now (out .entry)) (saidIn a)) ⌝ }
+    ensures { λ r. ⌜ r ≡ length (line (now (out .entry)) (saidIn a)) ⌝ }
+{
+    if out.len() < 128 {
         return 0;
     }
-    out[n - 1] = b'\n';
-    n
-}
-
-fn write_rectangle(out: &mut [u8], r: Rectangle) -> usize
-    ensures { λ n. ⌜ n ≤ length (now (out .exit)) ⌝ }
-{
-    let a = put(out, 0, r.x);
-    let b = put(out, a, r.y);
-    let c = put(out, b, r.width);
-    let d = put(out, c, r.height);
-    finish(out, d)
-}
-
-fn write_cube(out: &mut [u8], c: Cube) -> usize
-    ensures { λ n. ⌜ n ≤ length (now (out .exit)) ⌝ }
-{
-    let a = put(out, 0, c.x);
-    let b = put(out, a, c.y);
-    let d = put(out, b, c.z);
-    let e = put(out, d, c.width);
-    let f = put(out, e, c.height);
-    let g = put(out, f, c.depth);
-    finish(out, g)
-}
-
-// The line of an answer, at the front of out, and its length.
-pub fn show(a: Answer, out: &mut [u8]) -> usize
-    ensures { λ n. ⌜ n ≤ length (now (out .exit)) ⌝ }
-{
     match a {
-        Answer::Number(x) => {
-            let n = put(out, 0, x);
-            finish(out, n)
-        }
-        Answer::Yes(y) => mark(out, if y { b'1' } else { b'0' }),
+        Answer::Number(x) => put(out, 0, x, 10),
+        Answer::Yes(y) => mark(out, 48 + y as u8),
         Answer::Child(i) => mark(out, 48 + (i % 8) as u8),
-        Answer::Quadrant(r) => write_rectangle(out, r),
-        Answer::Octant(c) => write_cube(out, c),
+        Answer::Quadrant(q) => put_quadrant(out, q),
+        Answer::Octant(o) => put_octant(out, o),
         Answer::Unknown => mark(out, b'?'),
     }
 }

@@ -4,7 +4,6 @@ ghost use Prim.Native.Nat.{_≤_};
 ghost use lib.ListN.{length};
 
 mod answer;
-mod hex;
 mod question;
 
 use libc::STDIN_FILENO;

@@ -20,10 +20,11 @@ use Rattle.model.proofs.Counts.{cond-same}
 use Rattle.trees.specs.Pieces.{AsksHeld, Does, DoesHeld, Pieces, Says, SearchesHeld, roomFor}
 use Rattle.record.specs.Numbers.{decimal}
 use Rattle.replies.specs.Lines.{after, answer, crlf, field, heard, held?, line, makes, points, told}
-use Rattle.replies.specs.Printed.{Prints, ShapedPoint}
+use Rattle.replies.specs.Printed.{PutsTold, ShapedPoint}
 use Rattle.replies.specs.Programs.{Answers, Keeps, Wrote, longest}
 use Rattle.replies.proofs.Lines.{line-figure, line-reply, line-told}
 use Rattle.replies.proofs.Shapes.{Asked, held-shaped}
+use Rattle.replies.proofs.Told.{told-is}
 
 -- ---- a call on a tree leaves a tree
 abbrev pub Stays : Kind → Call → Type 0
@@ -184,14 +185,14 @@ module _ (k : Kind) (held : Bool) (s : Pieces) (out : List ℕ) (at : ℕ) (out'
   -- a search: the points that it handed over
   pub answers-told : (q : Query) (cs ms coords marks : List ℕ) (reply n : ℕ) → Pointed q → ((a : Plan) → All (ShapedPoint (k .axes)) (trees.held 32 (a .root)) → Asked (k .axes) 512 (step k (tree a) (Ask q)))
       → ((i : ℕ) → getD (s .points) i 0 < 256) → 512 ≤ roomFor (k .axes) coords marks → at + longest (k .axes) ≤ length out
-      → held ≡ true → SearchesHeld k q s cs ms coords marks reply n → Prints (k .axes) coords marks reply n out at out' r → Answers k (some (Ask q)) held s held s out at out' r
-  unfolding SearchesHeld Prints
+      → held ≡ true → SearchesHeld k q s cs ms coords marks reply n → PutsTold (k .axes) coords marks reply n out at out' r → Answers k (some (Ask q)) held s held s out at out' r
+  unfolding SearchesHeld
   answers-told q cs ms coords marks reply n f asked low room fit e d w = only-tree (Ask q) held s e (λ a y.
       let o = step k (tree a) (Ask q) in
       let h = asked a (held-shaped k s a y low) in
       let m : (17 * k .axes + 11) * o .figure ≤ (17 * k .axes + 11) * 512 = mul-le-mul-left (17 * k .axes + 11) (h .1) in
       let x : at + (14 + (17 * k .axes + 11) * o .figure) ≤ length out = omega (arith, m, fit) in
-      (subst (λ (t : List ℕ). Wrote out at t out' r) (sym (line-told q o (f o))) (w o cs ms (d a y) (h .0) (le-trans (h .1) room) x), still q a e y))
+      (subst (λ (t : List ℕ). Wrote out at t out' r) (sym (line-told q o (f o))) (told-is (k .axes) reply n coords marks out out' at r w o cs ms (d a y) (h .0) (le-trans (h .1) room) x), still q a e y))
 
   -- a creation: its reply alone
   pub answers-create : (b : List Side) (cap : ℕ) (s' : Pieces) (q : ℕ) (held' : Bool) → Does k (Create b cap) s s' q 0 → held' ≡ held || eqb q 0 → Wrote out at (decimal q ++ crlf) out' r

@@ -14,14 +14,15 @@ use lib.Seq.{sets-eq, take-at, drop-at, drop-drop, getD-drop, length-sets}
 use Rattle.model.specs.Calls.{Outcome}
 use Rattle.model.specs.Soundness.{All}
 use Rattle.model.specs.Trees.{Point}
+use Rattle.pool.proofs.Lists.{by-eq}
 use Rattle.record.specs.Numbers.{decimal, hex}
 use Rattle.words.specs.Words.{words, le4}
 use Rattle.words.proofs.Words.{words-at}
 use Rattle.answers.proofs.Writes.{fits-place, floatBytes, floatBytes-length}
 use Rattle.trees.specs.Pieces.{Hands, bytes, coordinates, payloads, roomFor}
 use Rattle.replies.specs.Lines.{crlf, field, point, points}
-use Rattle.replies.specs.Printed.{hexAt, hexes, nibbles, pointsFrom, ShapedPoint, Shaped, found, Prints}
-use Rattle.replies.specs.Programs.{Wrote}
+use Rattle.replies.specs.Printed.{hexAt, hexes, nibbles, pointsFrom, ShapedPoint, PutsTold, Shaped, found}
+use Rattle.replies.specs.Programs.{Puts, Wrote}
 use Rattle.replies.proofs.Hexes.{nibbles-bytes}
 use Rattle.replies.proofs.Lines.{refused-is}
 
@@ -118,21 +119,22 @@ module _ (axes reply count : ℕ) (coords payloads' : List ℕ) (o : Outcome) (c
       ap (λ (n : ℕ). decimal n ++ cond (eqb n 0) (field (decimal (o .figure)) ++ points (o .points)) [] ++ crlf) (sym (h .reply) ∙ e)
       ∙ ap₂ (λ (n : ℕ) (l : List ℕ). decimal 0 ++ (field (decimal n) ++ l) ++ crlf) (sym (h .figure)) (sym (handed few))
 
+-- ---- what was put down is the line of the search, where it was lent enough and there is room
+pub told-is : (axes reply count : ℕ) (coords payloads' out out' : List ℕ) (at r : ℕ) → PutsTold axes coords payloads' reply count out at out' r
+    → (o : Outcome) (cs ms : List ℕ) → Hands o cs ms coords payloads' reply count → Shaped axes o → o .figure ≤ roomFor axes coords payloads' → at + (14 + (17 * axes + 11) * o .figure) ≤ length out → Wrote out at (found o) out' r
+told-is axes reply count coords payloads' out out' at r p o cs ms h s few room =
+    by-eq reply 0
+    (λ e. subst (λ (l : List ℕ). Wrote out at l out' r) (sym (found-done axes reply count coords payloads' o cs ms h s e few)) (p .done e (omega (arith, h .figure, few)) .wrote (omega (arith, ap (λ (n : ℕ). (17 * axes + 11) * n) (h .figure), room))))
+    (λ e. subst (λ (l : List ℕ). Wrote out at l out' r) (sym (found-refused axes reply count coords payloads' o cs ms h s e)) (p .refused e .wrote (omega (arith, room))))
+
 -- ---- the ways of the code
 module _ (axes reply count : ℕ) (coords payloads' : List ℕ) (out out' : List ℕ) (at r : ℕ) where
-  pub prints-refused : reply ≢ 0 → (at + 12 ≤ length out → Wrote out at (decimal reply ++ crlf) out' r) → Prints axes coords payloads' reply count out at out' r
-  unfolding Prints
-  prints-refused e w o cs ms h s few room = subst (λ (l : List ℕ). Wrote out at l out' r) (sym (found-refused axes reply count coords payloads' o cs ms h s e)) (w (omega arith))
+  pub told-refused : reply ≢ 0 → Puts 12 out at (decimal reply ++ crlf) out' r → PutsTold axes coords payloads' reply count out at out' r
+  told-refused e w = record { refused = λ d. w; done = λ d. absurd (e d); unlent = λ d. absurd (e d) }
 
-  pub prints-done : reply ≡ 0 → Wrote out at (decimal 0 ++ (field (decimal count) ++ pointsFrom axes count coords payloads' 0) ++ crlf) out' r → Prints axes coords payloads' reply count out at out' r
-  unfolding Prints
-  prints-done e w o cs ms h s few room = subst (λ (l : List ℕ). Wrote out at l out' r) (sym (found-done axes reply count coords payloads' o cs ms h s e few)) w
+  pub told-done : reply ≡ 0 → count ≤ roomFor axes coords payloads' → Puts (14 + (17 * axes + 11) * count) out at (decimal 0 ++ (field (decimal count) ++ pointsFrom axes count coords payloads' 0) ++ crlf) out' r → PutsTold axes coords payloads' reply count out at out' r
+  told-done e l w = record { refused = λ d. absurd (d e); done = λ d k. w; unlent = λ d k. absurd (omega arith) }
 
-  -- more points than were lent, or no room for the line
-  pub prints-lent : roomFor axes coords payloads' < count → Prints axes coords payloads' reply count out at out' r
-  unfolding Prints
-  prints-lent e o cs ms h s few room = absurd (omega (arith, h .figure))
-
-  pub prints-room : length out < at + (14 + (17 * axes + 11) * count) → Prints axes coords payloads' reply count out at out' r
-  unfolding Prints
-  prints-room e o cs ms h s few room = absurd (omega (arith, ap (λ (n : ℕ). (17 * axes + 11) * n) (h .figure)))
+  -- more points than were lent
+  pub told-unlent : reply ≡ 0 → roomFor axes coords payloads' < count → Wrote out at [] out' r → PutsTold axes coords payloads' reply count out at out' r
+  told-unlent e l w = record { refused = λ d. absurd (d e); done = λ d k. absurd (omega arith); unlent = λ d k. w }

@@ -16,7 +16,7 @@ use Rattle.record.specs.Numbers.{glyph, spelt, places, decimal}
 use Rattle.pool.proofs.Lists.{by-lt}
 use Rattle.trees.proofs.Walks.{sets-append}
 use Rattle.replies.specs.Lines.{crlf}
-use Rattle.replies.specs.Programs.{Wrote}
+use Rattle.replies.specs.Programs.{Puts, Wrote}
 
 -- what was written after what was written
 pub then : (o₀ o₁ o₂ xs ys : List ℕ) (at r₁ r₂ : ℕ) → Wrote o₀ at xs o₁ r₁ → Wrote o₁ r₁ ys o₂ r₂ → Wrote o₀ at (xs ++ ys) o₂ r₂
@@ -24,6 +24,16 @@ then o₀ o₁ o₂ xs ys at r₁ r₂ f g = (
   omega (arith, f .0, g .0, length-append xs ys),
   (g .1 ∙ ap (λ (l : List ℕ). sets l r₁ ys) (f .1) ∙ ap (λ (k : ℕ). sets (sets o₀ at xs) k ys) (f .0) ∙ sym (sets-append xs ys o₀ at)),
 )
+
+-- no room, and room enough
+pub unwritten : (o : List ℕ) (at : ℕ) → Wrote o at [] o at
+unwritten o at = (sym (add-zero at), refl)
+
+pub puts-none : (room : ℕ) (o : List ℕ) (at : ℕ) (bytes : List ℕ) → length o < at + room → Puts room o at bytes o at
+puts-none room o at bytes h = record { wrote = λ l. absurd (omega arith); none = λ l. unwritten o at }
+
+pub puts-some : (room : ℕ) (o : List ℕ) (at : ℕ) (bytes o' : List ℕ) (r : ℕ) → at + room ≤ length o → Wrote o at bytes o' r → Puts room o at bytes o' r
+puts-some room o at bytes o' r h w = record { wrote = λ l. w; none = λ l. absurd (omega arith) }
 
 -- ---- digits
 pub letter-small : (t : Bool) → boolByte t ≤ 1

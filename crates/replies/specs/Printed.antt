@@ -1,5 +1,6 @@
 -- What is printed from the bytes that a search hands over, with no float in between; the proofs say that these are the lines of its points. Definitions only.
 use mathlib.Core.Path.{_≡_}
+use mathlib.Core.Logic.{_≢_}
 use mathlib.Core.Bool.{cond}
 use mathlib.Core.List.{List, [], _∷_, _++_}
 use Prim.Native.Nat.{ℕ, zero, suc, _+_, _*_, _/_, _%_, _<_, _≤_}
@@ -9,10 +10,10 @@ use Rattle.model.specs.Calls.{Outcome, number}
 use Rattle.model.specs.Soundness.{All}
 use Rattle.model.specs.Trees.{Point}
 use Rattle.words.specs.Words.{words}
-use Rattle.trees.specs.Pieces.{Hands, roomFor}
+use Rattle.trees.specs.Pieces.{roomFor}
 use Rattle.record.specs.Numbers.{glyph, decimal}
 use Rattle.replies.specs.Lines.{crlf, field, points}
-use Rattle.replies.specs.Programs.{Wrote}
+use Rattle.replies.specs.Programs.{Puts, Wrote}
 
 -- the hex digits of a number from its bytes, of which the first is the low one
 unfoldable pub nibbles : List ℕ → List ℕ
@@ -54,9 +55,9 @@ unfoldable pub found : Outcome → List ℕ
 unfolding decimal number points
 found o = decimal (number (o .reply)) ++ cond (eqb (number (o .reply)) 0) (field (decimal (o .figure)) ++ points (o .points)) [] ++ crlf
 
--- the line of a search is printed from what it handed over, where there is room: the reply, the count and the line end have 14 bytes at most, each float 17 with its comma and
--- each payload 11
-unfoldable pub Prints : (axes : ℕ) (coords payloads : List ℕ) (reply count : ℕ) (before : List ℕ) (at : ℕ) (after : List ℕ) (r : ℕ) → Type 0
-unfolding found
-Prints axes coords payloads reply count before at after r =
-    (o : Outcome) (cs ms : List ℕ) → Hands o cs ms coords payloads reply count → Shaped axes o → o .figure ≤ roomFor axes coords payloads → at + (14 + (17 * axes + 11) * o .figure) ≤ length before → Wrote before at (found o) after r
+-- that line, printed from what a search handed over. Done, it needs room for the reply, the count and the line end, 14 bytes at most, and for each float 17 with its comma and each payload 11; a
+-- count of more points than were lent is no answer, and nothing is written
+pub record PutsTold (axes : ℕ) (coords payloads : List ℕ) (reply count : ℕ) (before : List ℕ) (at : ℕ) (after : List ℕ) (r : ℕ) : Type 0 where
+  pub refused : reply ≢ 0 → Puts 12 before at (decimal reply ++ crlf) after r
+  pub done : reply ≡ 0 → count ≤ roomFor axes coords payloads → Puts (14 + (17 * axes + 11) * count) before at (decimal 0 ++ (field (decimal count) ++ pointsFrom axes count coords payloads 0) ++ crlf) after r
+  pub unlent : reply ≡ 0 → roomFor axes coords payloads < count → Wrote before at [] after r

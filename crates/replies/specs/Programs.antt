@@ -1,9 +1,9 @@
 -- What the code of a command program does: bytes written to a lent slice, the tree that its pieces hold, and how far it is in its input. Definitions only.
 use mathlib.Core.Path.{_≡_}
 use mathlib.Core.Bool.{Bool}
-use mathlib.Core.List.{List, _++_}
+use mathlib.Core.List.{List, [], _++_}
 use mathlib.Core.Option.{Option}
-use Prim.Native.Nat.{ℕ, _+_, _*_}
+use Prim.Native.Nat.{ℕ, _+_, _*_, _≤_, _<_}
 use lib.ListN.{length}
 use lib.Seq.{sets}
 use Rattle.model.specs.Calls.{Kind, State, Call}
@@ -14,6 +14,11 @@ use Rattle.replies.specs.Lines.{answer, held?, lines, state}
 -- from the index at on these bytes were written, and r is the index after them; the rest is as before
 abbrev pub Wrote : (before : List ℕ) (at : ℕ) (bytes after : List ℕ) (r : ℕ) → Type 0
 Wrote before at bytes after r = (r ≡ at + length bytes) × (after ≡ sets before at bytes)
+
+-- the bytes were written where so much room is left for them, and nothing was where there is less
+pub record Puts (room : ℕ) (before : List ℕ) (at : ℕ) (bytes after : List ℕ) (r : ℕ) : Type 0 where
+  pub wrote : at + room ≤ length before → Wrote before at bytes after r
+  pub none : length before < at + room → Wrote before at [] after r
 
 -- the pieces are in this state, and the program knows whether they hold a tree
 abbrev pub Keeps : Kind → (held : Bool) → Pieces → State → Type 0
@@ -41,11 +46,4 @@ pub record Feeds (k : Kind) (of : List ℕ → Option Call) (a : State) (start :
   pub printed : List ℕ
   pub fed : Fed k of a start text state start' rest printed
   pub wrote : Wrote out at printed out' r
-  pub keeps : Keeps k held' s' state
-
--- Code was fed with a text, and what is printed was handed on piece by piece.
-pub record Drains (k : Kind) (of : List ℕ → Option Call) (a : State) (start : Bool) (text : List ℕ) (held' : Bool) (s' : Pieces) (start' : Bool) (rest : List ℕ) : Type 0 where
-  pub state : State
-  pub printed : List ℕ
-  pub fed : Fed k of a start text state start' rest printed
   pub keeps : Keeps k held' s' state

@@ -10,8 +10,8 @@ ghost use Rattle.record.specs.Numbers as Numbers;
 ghost use Rattle.record.specs.Numbers.{spelt, decimal};
 ghost use Rattle.record.specs.Input.{begun, unended};
 ghost use Rattle.replies.specs.Lines.{crlf, field, lines};
-ghost use Rattle.replies.specs.Printed.{hexAt, pointAt, pointsFrom, Prints};
-ghost use Rattle.replies.specs.Programs.{Wrote, longest};
+ghost use Rattle.replies.specs.Printed.{hexAt, pointAt, pointsFrom, PutsTold};
+ghost use Rattle.replies.specs.Programs.{Puts, Wrote, longest};
 use answers::room;
 use record::lines::skipped;
 use words::get;
@@ -208,7 +208,7 @@ fn put_found(
 
 // Writes the line of a reply number alone.
 pub fn put_reply(out: &mut [u8], at: usize, reply: u32) -> usize
-    ensures { λ r. ⌜ (at + 12 ≤ length (now (out .entry)) → Wrote (now (out .entry)) at (decimal reply ++ crlf) (now (out .exit)) r) ⌝ }
+    ensures { λ r. ⌜ Puts 12 (now (out .entry)) at (decimal reply ++ crlf) (now (out .exit)) r ⌝ }
     ensures within { λ r. ⌜ (at ≤ length (now (out .entry)) → r ≤ length (now (out .entry))) ⌝ }
 {
     if out.len() < 12 {
@@ -223,7 +223,7 @@ pub fn put_reply(out: &mut [u8], at: usize, reply: u32) -> usize
 
 // Writes the line of a yes or no, or of a count.
 pub fn put_figure(out: &mut [u8], at: usize, figure: u32) -> usize
-    ensures { λ r. ⌜ (at + 14 ≤ length (now (out .entry)) → Wrote (now (out .entry)) at (decimal 0 ++ field (decimal figure) ++ crlf) (now (out .exit)) r) ⌝ }
+    ensures { λ r. ⌜ Puts 14 (now (out .entry)) at (decimal 0 ++ field (decimal figure) ++ crlf) (now (out .exit)) r ⌝ }
     ensures within { λ r. ⌜ (at ≤ length (now (out .entry)) → r ≤ length (now (out .entry))) ⌝ }
 {
     if out.len() < 14 {
@@ -247,7 +247,7 @@ pub fn put_told(
     coords: &[u8],
     payloads: &[u8],
 ) -> usize
-    ensures { λ r. ⌜ Prints axes (now (coords .entry)) (now (payloads .entry)) reply count (now (out .entry)) at (now (out .exit)) r ⌝ }
+    ensures { λ r. ⌜ PutsTold axes (now (coords .entry)) (now (payloads .entry)) reply count (now (out .entry)) at (now (out .exit)) r ⌝ }
     ensures within { λ r. ⌜ (at ≤ length (now (out .entry)) → r ≤ length (now (out .entry))) ⌝ }
 {
     if reply != 0 {
@@ -281,7 +281,7 @@ pub fn has_room(axes: u8, out: &[u8], at: usize) -> bool
 
 // Answers what stands after the last line end: nothing, or a record that has none.
 pub fn finish(text: &[u8], start: bool, out: &mut [u8]) -> usize
-    ensures { λ r. ⌜ (12 ≤ length (now (out .entry)) → (k : Kind) (a : State) → Wrote (now (out .entry)) 0 (lines k a (unended (begun start (now (text .entry))))) (now (out .exit)) r) ⌝ }
+    ensures { λ r. ⌜ ((k : Kind) (a : State) → Puts 12 (now (out .entry)) 0 (lines k a (unended (begun start (now (text .entry))))) (now (out .exit)) r) ⌝ }
     ensures within { λ r. ⌜ r ≤ length (now (out .entry)) ⌝ }
 {
     let n = skipped(text, start);

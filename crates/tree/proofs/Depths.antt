@@ -1,21 +1,20 @@
 -- What is true of places and boxes of either kind.
-use mathlib.Core.Path.{_≡_, refl, sym, ap, _∙_, subst, subst₂, subst⁻¹}
+use mathlib.Core.Path.{_≡_, refl, ap, _∙_, subst, subst⁻¹}
 use mathlib.Core.Bool.{Bool, true, false}
 use mathlib.Core.List.{List, [], _∷_}
 use Prim.Native.Nat.{ℕ, _^_, _%_, _<_, _≤_}
-use native.Mathlib.Nat.{mod-eq-of-lt}
 use native.Mathlib.Omega.{arith}
 use lib.Ieee.{Float, nan}
 use lib.ListN.{length, getD, take, length-map}
-use lib.Seq.{getD-take, take-all}
+use lib.Seq.{take-all}
 use Rattle.model.specs.Boxes.{Side, route}
 use Rattle.model.specs.Calls.{ways}
 use Rattle.model.specs.Trees.{Point}
-use Rattle.model.specs.Searches.{At, placeEach}
+use Rattle.model.specs.Searches.{placeEach}
 use Rattle.model.proofs.Counts.{route-lt}
 use Rattle.geometry.specs.declared.space.Point3D.{Point3D}
 use Rattle.geometry.specs.declared.space.Cube.{Cube}
-use Rattle.knn.specs.Candidates.{at, dists, items, numbered}
+use Rattle.knn.specs.Candidates.{dists, items, numbered}
 use Rattle.pool.specs.Writes.{Pool}
 use Rattle.model.proofs.Calls.{Regular, octree-regular, quadtree-regular}
 use Rattle.trees.proofs.Creates.{Named}
@@ -23,7 +22,7 @@ use Rattle.trees.proofs.Held.{Roomy}
 use Rattle.trees.proofs.Descents.{small-route}
 use Rattle.trees.proofs.Seeks.{nears}
 use Rattle.trees.proofs.Turns.{Parts}
-use Rattle.trees.proofs.Tables.{order-at, order-below, order-length}
+use Rattle.trees.proofs.Tables.{order-length}
 use Rattle.tree.specs.Depths.{groups, kind, place, sides}
 
 -- a child's number, in as few bits as there are axes
@@ -84,20 +83,3 @@ pub ordered-deep : (deep : Bool) (b : List Side) (c : List Float) (ds : List Flo
 ordered-deep deep b c ds ps e o =
     subst⁻¹ (λ (d : Bool). Ordered b c (ways (kind d)) (take (ways (kind d)) ds) (take (ways (kind d)) ps)) e
     (take-all 8 ds (omega (arith, ordered-length b c 8 ds ps o .0)) ∙ o .0, take-all 8 ps (omega (arith, ordered-length b c 8 ds ps o .1)) ∙ o .1)
-
--- an entry of the first ways, where a number is read in three bits
-pub entry : (b : List Side) (c : List Float) (w j : ℕ) (ds : List Float) (ps : List ℕ) → w ≤ 8 → j < w → take w ds ≡ dists (placeEach [] (numbered 0 (nears b c 0 w))) → take w ps ≡ items (placeEach [] (numbered 0 (nears b c 0 w)))
-    → (getD (placeEach [] (numbered 0 (nears b c 0 w))) j (at (getD ds j nan) (getD ps j 0 % 8)) ≡ at (getD ds j nan) (getD ps j 0 % 8)) × (getD ps j 0 % 8 < w)
-entry b c w j ds ps few h ed ep = (subst₂ (λ (d : Float) (i : ℕ). getD es j (at d i) ≡ at d i) (getD-take w ds j nan h) (sym small) here, omega (arith, small, low))
-  where
-    es : List (At ℕ)
-    es = placeEach [] (numbered 0 (nears b c 0 w))
-
-    here : getD (placeEach [] (numbered 0 (nears b c 0 w))) j (at (getD (take w ds) j nan) (getD (take w ps) j 0)) ≡ at (getD (take w ds) j nan) (getD (take w ps) j 0)
-    here = order-at (placeEach [] (numbered 0 (nears b c 0 w))) (take w ds) (take w ps) j ed ep (omega (arith, h, order-length b c w))
-
-    low : getD (take w ps) j 0 < w
-    low = subst (λ (i : ℕ). i < w) (ap (λ (e : At ℕ). e .item) here) (order-below b c w j (at (getD (take w ds) j nan) (getD (take w ps) j 0)) h)
-
-    small : getD ps j 0 % 8 ≡ getD (take w ps) j 0
-    small = mod-eq-of-lt (omega (arith, few, low, getD-take w ps j 0 h)) ∙ sym (getD-take w ps j 0 h)

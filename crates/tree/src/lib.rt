@@ -1,4 +1,4 @@
-// What both trees share: their functions once, for places with a z and without.
+// Both trees over places: quadtree.rs and octree.rs, once, for places with a z and without.
 pub mod descent;
 pub mod head;
 pub mod insert;

@@ -1,5 +1,5 @@
 -- What the search for k nearest promises of any words that hold a tree, and the steps by which it keeps it. Assumes nothing.
-use mathlib.Core.Path.{_≡_, refl, ap, ap₂, sym, _∙_, subst}
+use mathlib.Core.Path.{_≡_, refl, ap, ap₂, sym, _∙_, subst, subst₂}
 use mathlib.Core.Logic.{_≢_}
 use mathlib.Core.Bool.{Bool, true, false, not, _&&_}
 use mathlib.Core.List.{List, [], _∷_, _++_, map, append-nil}
@@ -9,7 +9,7 @@ use native.Mathlib.Numerals.{add-one, sub-one}
 use native.Mathlib.Omega.{arith}
 use lib.Dec.{ltb}
 use lib.ListN.{length, getD, take, drop, drop-of-length-le, length-map}
-use lib.Seq.{drop-cons, sets, take-all}
+use lib.Seq.{drop-cons, getD-take, sets, take-all}
 use lib.Ieee.{Float, lt, nan}
 use Rattle.model.specs.Boxes.{Side, nodeDistance, part}
 use Rattle.model.specs.Searches.{At, offer, offerEach, place, placeEach, worst}
@@ -222,7 +222,7 @@ all-get P [] j z a h = absurd (omega arith)
 all-get P (e ∷ es) zero z a h = a .0
 all-get P (e ∷ es) (suc j) z a h = all-get P es j z (a .1) (omega arith)
 
-pub order-below : (b : List Side) (c : List Float) (ways j : ℕ) (z : At ℕ) → j < ways → getD (placeEach [] (numbered 0 (nears b c 0 ways))) j z .item < ways
+order-below : (b : List Side) (c : List Float) (ways j : ℕ) (z : At ℕ) → j < ways → getD (placeEach [] (numbered 0 (nears b c 0 ways))) j z .item < ways
 order-below b c ways j z h =
     all-get (λ (e : At ℕ). e .item < ways) (placeEach [] (numbered 0 (nears b c 0 ways))) j z
     (placeEach-all (λ (e : At ℕ). e .item < ways) [] (numbered 0 (nears b c 0 ways)) tt (numbers-below 0 ways (nears b c 0 ways) (omega (arith, nears-length b c 0 ways))))
@@ -234,7 +234,7 @@ entry-at [] j z h = absurd (omega arith)
 entry-at (e ∷ es) zero z h = refl
 entry-at (e ∷ es) (suc j) z h = entry-at es j z (omega arith)
 
-pub order-at : (es : List (At ℕ)) (ds : List Float) (ps : List ℕ) (j : ℕ) → ds ≡ dists es → ps ≡ items es → j < length es → getD es j (at (getD ds j nan) (getD ps j 0)) ≡ at (getD ds j nan) (getD ps j 0)
+order-at : (es : List (At ℕ)) (ds : List Float) (ps : List ℕ) (j : ℕ) → ds ≡ dists es → ps ≡ items es → j < length es → getD es j (at (getD ds j nan) (getD ps j 0)) ≡ at (getD ds j nan) (getD ps j 0)
 order-at es ds ps j ed ep h = entry-at es j _ h ∙ ap₂ (λ (a : List Float) (b : List ℕ). at (getD a j nan) (getD b j 0)) (sym ed) (sym ep)
 
 -- ---- the node distances of all children, put in order
@@ -265,20 +265,19 @@ ordered-all b c ways ds ps ds' ps' h ed ep w = (
     same : ordered ds ps ≡ placeEach [] (numbered 0 (nears b c 0 ways))
     same = ap (λ (l : List Float). placeEach [] (numbered 0 l)) (take-all (min 8 (min (length ds) (length ps))) ds (omega (arith, long, ep, h)) ∙ ed)
 
--- entry j of the order, as the code reads it: its number is below `ways`, so that a remainder changes nothing
-pub order-entry : (b : List Side) (c : List Float) (ways j : ℕ) (ds : List Float) (ps : List ℕ) → j < ways → ds ≡ dists (placeEach [] (numbered 0 (nears b c 0 ways))) → ps ≡ items (placeEach [] (numbered 0 (nears b c 0 ways)))
-    → (getD (placeEach [] (numbered 0 (nears b c 0 ways))) j (at (getD ds j nan) (getD ps j 0 % ways)) ≡ at (getD ds j nan) (getD ps j 0 % ways)) × (getD ps j 0 % ways < ways)
-order-entry b c ways j ds ps h ed ep =
-    (subst (λ (i : ℕ). getD es j (at (getD ds j nan) i) ≡ at (getD ds j nan) i) (sym small) (order-at es ds ps j ed ep hj), omega (arith, small, low))
+-- an entry of the first ways in longer arrays, where a number is read in as many bits as all of them may need
+pub order-entry : (b : List Side) (c : List Float) (w m j : ℕ) (ds : List Float) (ps : List ℕ) → w ≤ m → j < w → take w ds ≡ dists (placeEach [] (numbered 0 (nears b c 0 w))) → take w ps ≡ items (placeEach [] (numbered 0 (nears b c 0 w)))
+    → (getD (placeEach [] (numbered 0 (nears b c 0 w))) j (at (getD ds j nan) (getD ps j 0 % m)) ≡ at (getD ds j nan) (getD ps j 0 % m)) × (getD ps j 0 % m < w)
+order-entry b c w m j ds ps few h ed ep = (subst₂ (λ (d : Float) (i : ℕ). getD es j (at d i) ≡ at d i) (getD-take w ds j nan h) (sym small) here, omega (arith, small, low))
   where
     es : List (At ℕ)
-    es = placeEach [] (numbered 0 (nears b c 0 ways))
+    es = placeEach [] (numbered 0 (nears b c 0 w))
 
-    hj : j < length (placeEach [] (numbered 0 (nears b c 0 ways)))
-    hj = omega (arith, h, order-length b c ways)
+    here : getD (placeEach [] (numbered 0 (nears b c 0 w))) j (at (getD (take w ds) j nan) (getD (take w ps) j 0)) ≡ at (getD (take w ds) j nan) (getD (take w ps) j 0)
+    here = order-at (placeEach [] (numbered 0 (nears b c 0 w))) (take w ds) (take w ps) j ed ep (omega (arith, h, order-length b c w))
 
-    low : getD ps j 0 < ways
-    low = subst (λ (i : ℕ). i < ways) (ap (λ (e : At ℕ). e .item) (order-at (placeEach [] (numbered 0 (nears b c 0 ways))) ds ps j ed ep hj)) (order-below b c ways j (at (getD ds j nan) (getD ps j 0)) h)
+    low : getD (take w ps) j 0 < w
+    low = subst (λ (i : ℕ). i < w) (ap (λ (e : At ℕ). e .item) here) (order-below b c w j (at (getD (take w ds) j nan) (getD (take w ps) j 0)) h)
 
-    small : getD ps j 0 % ways ≡ getD ps j 0
-    small = mod-eq-of-lt low
+    small : getD ps j 0 % m ≡ getD (take w ps) j 0
+    small = mod-eq-of-lt (omega (arith, few, low, getD-take w ps j 0 h)) ∙ sym (getD-take w ps j 0 h)

@@ -1,6 +1,6 @@
 //! The recorded streams: which there are, and how they are made.
 
-use crate::check::example_streams;
+use crate::check::joined_examples;
 use crate::edges;
 use crate::generate::generate;
 use crate::program::answers;
@@ -68,8 +68,7 @@ fn of_space<S: Space>() -> Result<Vec<Recording>, String> {
     for plan in PLAN {
         all.push(recording(format!("{}-{}", S::WORD, plan.0), made(plan)?));
     }
-    let examples = example_streams::<S>().into_iter().flat_map(|(_, stream)| stream).collect();
-    all.push(recording(format!("{PROGRAMS}{}", S::WORD), examples));
+    all.push(recording(format!("{PROGRAMS}{}", S::WORD), joined_examples::<S>()));
     let replay = |name: &str| format!("{PROGRAMS}{}_{name}", S::WORD);
     for plan in REPLAYED {
         all.push(recording(replay(plan.0), made(plan)?));

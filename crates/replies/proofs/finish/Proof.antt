@@ -14,10 +14,10 @@ same-length : tie.Need-same-length
 same-length c = search needs
 
 returns : tie.Need-returns
-returns c = (λ h. finished-some _ _ _ _ _ _ (c .before .before .before .before .if1 .taken) (c .before .before .before .before .before .skipped .ensures .1) (c .before .before .put-reply .ensures .0 (omega (arith, h))), c .before .before .put-reply .ensures .1 (omega arith))
+returns c = (finished-some _ _ _ _ _ _ (c .before .before .before .before .if1 .taken) (c .before .before .before .before .before .skipped .ensures .1) (c .before .before .put-reply .ensures .0), c .before .before .put-reply .ensures .1 (omega arith))
 
 returns-2 : tie.Need-returns-2
-returns-2 c = (λ h. finished-none _ _ _ _ (c .if1 .left) (c .before .skipped .ensures .1), omega arith)
+returns-2 c = (finished-none _ _ _ _ (c .if1 .left) (c .before .skipped .ensures .1), omega arith)
 
 pub finish-spec : {M : Type 1} → statement M
 finish-spec =

@@ -69,6 +69,36 @@ pub fn streams<S: Space>() -> Vec<(&'static str, Vec<u8>)> {
         .collect()
 }
 
+/// The examples as one stream. Before them stand records that find no tree, the first with the mark before it
+/// and CRLF behind it; behind them records that are not understood, the largest whole number, and a last
+/// record with no line end.
+pub fn joined<S: Space>() -> Vec<u8> {
+    let point = vec!["3FF0000000000000"; S::AXES].join(",");
+    let fewer = vec!["3FF0000000000000"; S::AXES - 1].join(",");
+    let boundary = [vec!["0000000000000000"; S::AXES], vec!["4020000000000000"; S::AXES]].concat().join(",");
+    let other = if S::AXES == 2 { "oct" } else { "quad" };
+    let before = format!("len\r\ninsert,{point},1\nclear\nnothing\n");
+    let behind = [
+        format!("insert,3ff0000000000000,{fewer},1"),
+        format!("insert,\"3FF0000000000000\",{fewer},1"),
+        format!("insert,{point},01"),
+        format!("insert,{point},4294967296"),
+        format!("insert,{fewer},1"),
+        format!("insert,{point},1,"),
+        "Len".into(),
+        " len".into(),
+        String::new(),
+        format!("{other},{boundary},1"),
+        "x".repeat(129),
+        format!("{},{boundary},4294967295", S::WORD),
+        format!("insert,{point},4294967295"),
+        format!("contains,{point},4294967295"),
+        "len\r\nlen".into(),
+    ];
+    let examples = streams::<S>().into_iter().flat_map(|(_, stream)| stream).collect();
+    [b"\xef\xbb\xbf".to_vec(), before.into(), examples, behind.join("\n").into()].concat()
+}
+
 type Owned = (String, String);
 
 fn borrowed(steps: &[Owned]) -> Vec<Step<'_>> {
@@ -165,6 +195,7 @@ const PLANE: &[(&str, &[Step])] = &[
             ("?nodes", "1"),
             ("?lists", "0@0,0:2,1"),
             ("knn 3 1 1", "0 1 | 5 1 2"),
+            ("range 3 1 8", "0 2 | 5 1 2 | 1 1 1"),
         ],
     ),
     (

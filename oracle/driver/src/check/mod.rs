@@ -10,7 +10,7 @@ mod report;
 mod streams;
 mod words;
 
-pub use examples::streams as example_streams;
+pub use examples::{joined as joined_examples, streams as example_streams};
 pub use report::Report;
 use std::path::Path;
 

@@ -1,47 +1,83 @@
 -- `replay_geometry::answer::put` meets its contract. Assumes nothing.
-use native.Mathlib.Omega.{arith}
-use lib.ListN.{length-set}
+use Prim.Native.Nat.{_≤_}
+use mathlib.Core.Path.{_≡_, refl, sym, _∙_}
+use lib.ListN.{length}
+use lib.Seq.{sets}
+use Rattle.record.specs.Numbers.{spelt}
+use Rattle.replay_geometry.proofs.Texts.{digit-turn, digit-end, number-put}
 use borrow.Author.Needs.{needs}
-use Rattle.replay_geometry.proofs.answer.put.Tie as tie
 use Rattle.replay_geometry.proofs.answer.put.Statement.{statement}
+use Rattle.replay_geometry.proofs.answer.put.Tie as tie
 
-sub-if1 : tie.Need-sub-if1
-sub-if1 c = search needs
+abbrev Inv-loop : tie.InvT-loop
+Inv-loop out₀ at x end left₀ k₀ out left k = (k ≤ 16) × (length out ≡ length out₀) × (sets out at (spelt 16 k left) ≡ sets out₀ at (spelt 16 16 left₀))
 
-returns : tie.Need-returns
-returns c = search needs
+abbrev μ-loop : tie.MeasureT-loop
+μ-loop out₀ at x end left₀ k₀ out left k = k
 
-to-bits-requires : tie.Need-to-bits-requires
+to-bits-requires : tie.Need-to-bits-requires Inv-loop μ-loop
 to-bits-requires c κs = search needs
 
-write-requires : tie.Need-write-requires
-write-requires c κs = search needs
+loop-holds : tie.Need-loop-holds Inv-loop μ-loop
+loop-holds c = (search needs, refl, refl)
 
-add-out : tie.Need-add-out
+sub-k : tie.Need-sub-k Inv-loop μ-loop
+sub-k c = search needs
+
+cast-glyph : tie.Need-cast-glyph Inv-loop μ-loop
+cast-glyph c = search needs
+
+glyph-requires : tie.Need-glyph-requires Inv-loop μ-loop
+glyph-requires c κs = search needs
+
+add-out : tie.Need-add-out Inv-loop μ-loop
 add-out c = search needs
 
-slice-write-out : tie.Need-slice-write-out
+slice-write-out : tie.Need-slice-write-out Inv-loop μ-loop
 slice-write-out c = search needs
 
-add-result : tie.Need-add-result
+loop-less : tie.Need-loop-less Inv-loop μ-loop
+loop-less c = search needs
+
+loop-again : tie.Need-loop-again Inv-loop μ-loop
+loop-again c =
+    let l = c .before .before .loop in
+    (search needs, search needs, (rw (c .glyph .ensures) (digit-turn (l .k) (l .left) (l .out) _ (c .before .loop-test .taken)) ∙ l .inv .2))
+
+add-out-2 : tie.Need-add-out-2 Inv-loop μ-loop
+add-out-2 c = search needs
+
+slice-write-out-2 : tie.Need-slice-write-out-2 Inv-loop μ-loop
+slice-write-out-2 c = search needs
+
+add-result : tie.Need-add-result Inv-loop μ-loop
 add-result c = search needs
 
-same-length : tie.Need-same-length
+same-length : tie.Need-same-length Inv-loop μ-loop
 same-length c = search needs
 
-returns-2 : tie.Need-returns-2
-returns-2 c = simp length-set (omega (arith, c .before .before .write .kept .0))
+returns : tie.Need-returns Inv-loop μ-loop
+returns c =
+    let l = c .before .loop in
+    (number-put _ _ _ _ _ _ (c .before .before .to-bits .ensures) (sym (digit-end (l .left) (l .out) _ (l .k) (c .loop-test .left)) ∙ l .inv .2), refl)
 
 pub put-spec : {M : Type 1} → statement M
 put-spec =
     tie.close
     (tie.spec
-    sub-if1
-    returns
+    Inv-loop
+    μ-loop
     to-bits-requires
-    write-requires
+    loop-holds
+    sub-k
+    cast-glyph
+    glyph-requires
     add-out
     slice-write-out
+    loop-less
+    loop-again
+    add-out-2
+    slice-write-out-2
     add-result
     same-length
-    returns-2)
+    returns)

@@ -4,8 +4,8 @@ use native.Mathlib.Omega.{arith}
 use Rattle.words.specs.Words.{words}
 use Rattle.tree.specs.Depths.{kind, place, sides}
 use Rattle.trees.specs.Points.{pointAt}
-use Rattle.tree.proofs.Depths.{entry, most-ways}
-use Rattle.trees.proofs.Tables.{Nexts, seeks-list, seeks-none, nexts-start, nexts-step, nexts-skip, nexts-end, order-length}
+use Rattle.tree.proofs.Depths.{most-ways}
+use Rattle.trees.proofs.Tables.{order-entry, Nexts, seeks-list, seeks-none, nexts-start, nexts-step, nexts-skip, nexts-end, order-length}
 use borrow.Author.Needs.{needs}
 use Prim.Native.Nat.{ℕ, _<_}
 use borrow.Fn.Kinds.{In}
@@ -94,7 +94,7 @@ knn-search-helper-same-length-4 : (t : ℕ) → knn-search-helper-lts.Need-same-
 knn-search-helper-same-length-4 t c = search needs
 
 knn-search-helper-returns-3 : (t : ℕ) → knn-search-helper-lts.Need-returns-3 (cs t) (knn-search-helper-at t) knn-search-helper.Post knn-search-helper-Inv-loop knn-search-helper-μ-loop
-knn-search-helper-returns-3 t c = nexts-skip _ _ _ _ _ _ _ _ _ _ _ _ _ (c .before .before .before .before .loop .j) _ _ _ _ _ _ (c .before .before .before .before .before .before .before .before .before .before .group .ensures) (c .before .before .before .before .before .before .before .before .before .if1 .left) (c .before .before .before .before .before .before .before .before .if2 .left) (c .before .before .before .before .loop .inv .1) (omega (arith, c .before .before .before .loop-test .taken, order-length (sides (c .before .before .before .before .before .before .before .before .before .before .before .before .before .before .before .before .before .args .deep) (c .before .before .before .before .before .before .before .before .before .before .before .before .before .before .before .before .before .args .bounds)) (place (c .before .before .before .before .before .before .before .before .before .before .before .before .before .before .before .before .before .args .deep) (c .before .before .before .before .before .before .before .before .before .before .before .before .before .before .before .before .before .args .target)) (ways (kind (c .before .before .before .before .before .before .before .before .before .before .before .before .before .before .before .before .before .args .deep))), c .before .before .before .before .before .before .before .before .before .before .before .ways .ensures)) ((entry (sides (c .before .before .before .before .before .before .before .before .before .before .before .before .before .before .before .before .before .args .deep) (c .before .before .before .before .before .before .before .before .before .before .before .before .before .before .before .before .before .args .bounds)) (place (c .before .before .before .before .before .before .before .before .before .before .before .before .before .before .before .before .before .args .deep) (c .before .before .before .before .before .before .before .before .before .before .before .before .before .before .before .before .before .args .target)) (ways (kind (c .before .before .before .before .before .before .before .before .before .before .before .before .before .before .before .before .before .args .deep))) (c .before .before .before .before .loop .j) _ _ (most-ways (c .before .before .before .before .before .before .before .before .before .before .before .before .before .before .before .before .before .args .deep)) (omega (arith, c .before .before .before .loop-test .taken, c .before .before .before .before .before .before .before .before .before .before .before .ways .ensures)) (c .before .before .before .before .before .before .before .by-distance .ensures .0) (c .before .before .before .before .before .before .before .by-distance .ensures .1)) .0) (c .before .worst .ensures) (c .if3 .taken)
+knn-search-helper-returns-3 t c = nexts-skip _ _ _ _ _ _ _ _ _ _ _ _ _ (c .before .before .before .before .loop .j) _ _ _ _ _ _ (c .before .before .before .before .before .before .before .before .before .before .group .ensures) (c .before .before .before .before .before .before .before .before .before .if1 .left) (c .before .before .before .before .before .before .before .before .if2 .left) (c .before .before .before .before .loop .inv .1) (omega (arith, c .before .before .before .loop-test .taken, order-length (sides (c .before .before .before .before .before .before .before .before .before .before .before .before .before .before .before .before .before .args .deep) (c .before .before .before .before .before .before .before .before .before .before .before .before .before .before .before .before .before .args .bounds)) (place (c .before .before .before .before .before .before .before .before .before .before .before .before .before .before .before .before .before .args .deep) (c .before .before .before .before .before .before .before .before .before .before .before .before .before .before .before .before .before .args .target)) (ways (kind (c .before .before .before .before .before .before .before .before .before .before .before .before .before .before .before .before .before .args .deep))), c .before .before .before .before .before .before .before .before .before .before .before .ways .ensures)) ((order-entry (sides (c .before .before .before .before .before .before .before .before .before .before .before .before .before .before .before .before .before .args .deep) (c .before .before .before .before .before .before .before .before .before .before .before .before .before .before .before .before .before .args .bounds)) (place (c .before .before .before .before .before .before .before .before .before .before .before .before .before .before .before .before .before .args .deep) (c .before .before .before .before .before .before .before .before .before .before .before .before .before .before .before .before .before .args .target)) (ways (kind (c .before .before .before .before .before .before .before .before .before .before .before .before .before .before .before .before .before .args .deep))) 8 (c .before .before .before .before .loop .j) _ _ (most-ways (c .before .before .before .before .before .before .before .before .before .before .before .before .before .before .before .before .before .args .deep)) (omega (arith, c .before .before .before .loop-test .taken, c .before .before .before .before .before .before .before .before .before .before .before .ways .ensures)) (c .before .before .before .before .before .before .before .by-distance .ensures .0) (c .before .before .before .before .before .before .before .by-distance .ensures .1)) .0) (c .before .worst .ensures) (c .if3 .taken)
 
 knn-search-helper-mul-c : (t : ℕ) → knn-search-helper-lts.Need-mul-c (cs t) (knn-search-helper-at t) knn-search-helper.Post knn-search-helper-Inv-loop knn-search-helper-μ-loop
 knn-search-helper-mul-c t c = search needs
@@ -121,7 +121,7 @@ knn-search-helper-loop-less : (t : ℕ) → knn-search-helper-lts.Need-loop-less
 knn-search-helper-loop-less t c = search needs
 
 knn-search-helper-loop-again : (t : ℕ) → knn-search-helper-lts.Need-loop-again (cs t) (knn-search-helper-at t) knn-search-helper.Post knn-search-helper-Inv-loop knn-search-helper-μ-loop
-knn-search-helper-loop-again t c = (omega (arith, c .before .before .before .before .before .before .before .before .before .before .before .before .loop-test .taken, c .before .before .before .before .before .before .before .before .before .before .before .before .before .before .before .before .before .before .before .before .ways .ensures), nexts-step _ _ _ _ _ _ _ _ _ _ _ _ _ (c .before .before .before .before .before .before .before .before .before .before .before .before .before .loop .j) _ _ _ _ _ _ _ _ _ _ (c .before .before .before .before .before .before .before .before .before .before .before .before .before .loop .inv .1) (omega (arith, c .before .before .before .before .before .before .before .before .before .before .before .before .loop-test .taken, order-length (sides (c .before .before .before .before .before .before .before .before .before .before .before .before .before .before .before .before .before .before .before .before .before .before .before .before .before .before .args .deep) (c .before .before .before .before .before .before .before .before .before .before .before .before .before .before .before .before .before .before .before .before .before .before .before .before .before .before .args .bounds)) (place (c .before .before .before .before .before .before .before .before .before .before .before .before .before .before .before .before .before .before .before .before .before .before .before .before .before .before .args .deep) (c .before .before .before .before .before .before .before .before .before .before .before .before .before .before .before .before .before .before .before .before .before .before .before .before .before .before .args .target)) (ways (kind (c .before .before .before .before .before .before .before .before .before .before .before .before .before .before .before .before .before .before .before .before .before .before .before .before .before .before .args .deep))), c .before .before .before .before .before .before .before .before .before .before .before .before .before .before .before .before .before .before .before .before .ways .ensures)) ((entry (sides (c .before .before .before .before .before .before .before .before .before .before .before .before .before .before .before .before .before .before .before .before .before .before .before .before .before .before .args .deep) (c .before .before .before .before .before .before .before .before .before .before .before .before .before .before .before .before .before .before .before .before .before .before .before .before .before .before .args .bounds)) (place (c .before .before .before .before .before .before .before .before .before .before .before .before .before .before .before .before .before .before .before .before .before .before .before .before .before .before .args .deep) (c .before .before .before .before .before .before .before .before .before .before .before .before .before .before .before .before .before .before .before .before .before .before .before .before .before .before .args .target)) (ways (kind (c .before .before .before .before .before .before .before .before .before .before .before .before .before .before .before .before .before .before .before .before .before .before .before .before .before .before .args .deep))) (c .before .before .before .before .before .before .before .before .before .before .before .before .before .loop .j) _ _ (most-ways (c .before .before .before .before .before .before .before .before .before .before .before .before .before .before .before .before .before .before .before .before .before .before .before .before .before .before .args .deep)) (omega (arith, c .before .before .before .before .before .before .before .before .before .before .before .before .loop-test .taken, c .before .before .before .before .before .before .before .before .before .before .before .before .before .before .before .before .before .before .before .before .ways .ensures)) (c .before .before .before .before .before .before .before .before .before .before .before .before .before .before .before .before .by-distance .ensures .0) (c .before .before .before .before .before .before .before .before .before .before .before .before .before .before .before .before .by-distance .ensures .1)) .0) ((entry (sides (c .before .before .before .before .before .before .before .before .before .before .before .before .before .before .before .before .before .before .before .before .before .before .before .before .before .before .args .deep) (c .before .before .before .before .before .before .before .before .before .before .before .before .before .before .before .before .before .before .before .before .before .before .before .before .before .before .args .bounds)) (place (c .before .before .before .before .before .before .before .before .before .before .before .before .before .before .before .before .before .before .before .before .before .before .before .before .before .before .args .deep) (c .before .before .before .before .before .before .before .before .before .before .before .before .before .before .before .before .before .before .before .before .before .before .before .before .before .before .args .target)) (ways (kind (c .before .before .before .before .before .before .before .before .before .before .before .before .before .before .before .before .before .before .before .before .before .before .before .before .before .before .args .deep))) (c .before .before .before .before .before .before .before .before .before .before .before .before .before .loop .j) _ _ (most-ways (c .before .before .before .before .before .before .before .before .before .before .before .before .before .before .before .before .before .before .before .before .before .before .before .before .before .before .args .deep)) (omega (arith, c .before .before .before .before .before .before .before .before .before .before .before .before .loop-test .taken, c .before .before .before .before .before .before .before .before .before .before .before .before .before .before .before .before .before .before .before .before .ways .ensures)) (c .before .before .before .before .before .before .before .before .before .before .before .before .before .before .before .before .by-distance .ensures .0) (c .before .before .before .before .before .before .before .before .before .before .before .before .before .before .before .before .by-distance .ensures .1)) .1) (c .before .before .before .before .before .before .before .before .before .before .worst .ensures) (c .before .before .before .before .before .before .before .before .before .if3 .left) (c .before .before .before .before .before .before .before .before .kid .ensures .0) (c .before .before .before .before .before .before .before .part .ensures) (c .before .before .before .before .knn-search-helper .kept .1 .1 .1 .1 .1 .1 .1 .1 .1 .0) (c .before .before .before .before .knn-search-helper .kept .1 .1 .1 .1 .1 .1 .1 .1 .1 .1 .0) (c .before .before .before .before .knn-search-helper .ensures))
+knn-search-helper-loop-again t c = (omega (arith, c .before .before .before .before .before .before .before .before .before .before .before .before .loop-test .taken, c .before .before .before .before .before .before .before .before .before .before .before .before .before .before .before .before .before .before .before .before .ways .ensures), nexts-step _ _ _ _ _ _ _ _ _ _ _ _ _ (c .before .before .before .before .before .before .before .before .before .before .before .before .before .loop .j) _ _ _ _ _ _ _ _ _ _ (c .before .before .before .before .before .before .before .before .before .before .before .before .before .loop .inv .1) (omega (arith, c .before .before .before .before .before .before .before .before .before .before .before .before .loop-test .taken, order-length (sides (c .before .before .before .before .before .before .before .before .before .before .before .before .before .before .before .before .before .before .before .before .before .before .before .before .before .before .args .deep) (c .before .before .before .before .before .before .before .before .before .before .before .before .before .before .before .before .before .before .before .before .before .before .before .before .before .before .args .bounds)) (place (c .before .before .before .before .before .before .before .before .before .before .before .before .before .before .before .before .before .before .before .before .before .before .before .before .before .before .args .deep) (c .before .before .before .before .before .before .before .before .before .before .before .before .before .before .before .before .before .before .before .before .before .before .before .before .before .before .args .target)) (ways (kind (c .before .before .before .before .before .before .before .before .before .before .before .before .before .before .before .before .before .before .before .before .before .before .before .before .before .before .args .deep))), c .before .before .before .before .before .before .before .before .before .before .before .before .before .before .before .before .before .before .before .before .ways .ensures)) ((order-entry (sides (c .before .before .before .before .before .before .before .before .before .before .before .before .before .before .before .before .before .before .before .before .before .before .before .before .before .before .args .deep) (c .before .before .before .before .before .before .before .before .before .before .before .before .before .before .before .before .before .before .before .before .before .before .before .before .before .before .args .bounds)) (place (c .before .before .before .before .before .before .before .before .before .before .before .before .before .before .before .before .before .before .before .before .before .before .before .before .before .before .args .deep) (c .before .before .before .before .before .before .before .before .before .before .before .before .before .before .before .before .before .before .before .before .before .before .before .before .before .before .args .target)) (ways (kind (c .before .before .before .before .before .before .before .before .before .before .before .before .before .before .before .before .before .before .before .before .before .before .before .before .before .before .args .deep))) 8 (c .before .before .before .before .before .before .before .before .before .before .before .before .before .loop .j) _ _ (most-ways (c .before .before .before .before .before .before .before .before .before .before .before .before .before .before .before .before .before .before .before .before .before .before .before .before .before .before .args .deep)) (omega (arith, c .before .before .before .before .before .before .before .before .before .before .before .before .loop-test .taken, c .before .before .before .before .before .before .before .before .before .before .before .before .before .before .before .before .before .before .before .before .ways .ensures)) (c .before .before .before .before .before .before .before .before .before .before .before .before .before .before .before .before .by-distance .ensures .0) (c .before .before .before .before .before .before .before .before .before .before .before .before .before .before .before .before .by-distance .ensures .1)) .0) ((order-entry (sides (c .before .before .before .before .before .before .before .before .before .before .before .before .before .before .before .before .before .before .before .before .before .before .before .before .before .before .args .deep) (c .before .before .before .before .before .before .before .before .before .before .before .before .before .before .before .before .before .before .before .before .before .before .before .before .before .before .args .bounds)) (place (c .before .before .before .before .before .before .before .before .before .before .before .before .before .before .before .before .before .before .before .before .before .before .before .before .before .before .args .deep) (c .before .before .before .before .before .before .before .before .before .before .before .before .before .before .before .before .before .before .before .before .before .before .before .before .before .before .args .target)) (ways (kind (c .before .before .before .before .before .before .before .before .before .before .before .before .before .before .before .before .before .before .before .before .before .before .before .before .before .before .args .deep))) 8 (c .before .before .before .before .before .before .before .before .before .before .before .before .before .loop .j) _ _ (most-ways (c .before .before .before .before .before .before .before .before .before .before .before .before .before .before .before .before .before .before .before .before .before .before .before .before .before .before .args .deep)) (omega (arith, c .before .before .before .before .before .before .before .before .before .before .before .before .loop-test .taken, c .before .before .before .before .before .before .before .before .before .before .before .before .before .before .before .before .before .before .before .before .ways .ensures)) (c .before .before .before .before .before .before .before .before .before .before .before .before .before .before .before .before .by-distance .ensures .0) (c .before .before .before .before .before .before .before .before .before .before .before .before .before .before .before .before .by-distance .ensures .1)) .1) (c .before .before .before .before .before .before .before .before .before .before .worst .ensures) (c .before .before .before .before .before .before .before .before .before .if3 .left) (c .before .before .before .before .before .before .before .before .kid .ensures .0) (c .before .before .before .before .before .before .before .part .ensures) (c .before .before .before .before .knn-search-helper .kept .1 .1 .1 .1 .1 .1 .1 .1 .1 .0) (c .before .before .before .before .knn-search-helper .kept .1 .1 .1 .1 .1 .1 .1 .1 .1 .1 .0) (c .before .before .before .before .knn-search-helper .ensures))
 
 knn-search-helper-same-length-5 : (t : ℕ) → knn-search-helper-lts.Need-same-length-5 (cs t) (knn-search-helper-at t) knn-search-helper.Post knn-search-helper-Inv-loop knn-search-helper-μ-loop
 knn-search-helper-same-length-5 t c = search needs

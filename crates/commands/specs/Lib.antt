@@ -1,0 +1,2 @@
+-- What the commands of both programs mean. Definitions only.
+pub mod Commands

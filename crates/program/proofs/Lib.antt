@@ -1,0 +1,3 @@
+-- What is proved of a command program.
+pub mod Feeding
+pub mod Working

@@ -1,2 +1,0 @@
--- What the quadtree program's own types mean. Definitions only.
-pub mod Commands
