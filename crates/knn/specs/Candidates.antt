@@ -66,6 +66,10 @@ InOrder (x ∷ xs) = All (λ y. T (not (less (y .dist) (x .dist)))) xs × InOrde
 abbrev pub ByModel : (count k : ℕ) → Float → ℕ → List Float → List ℕ → List Float → List ℕ → ℕ → Type 0
 ByModel count k d p ds ps ds' ps' r = InOrder (entries count ds ps) → (entries r ds' ps' ≡ offer (room k ds ps) (at d p) (entries count ds ps)) × InOrder (entries r ds' ps')
 
+-- a table's two arrays, its count and its k after an offer: all four are fixed
+abbrev pub Offered : (count k : ℕ) → Float → ℕ → List Float → List ℕ → List Float → List ℕ → (count' k' : ℕ) → Type 0
+Offered count k d p ds ps ds' ps' count' k' = (count' ≡ length (kept count k d p ds ps)) × (k' ≡ k) × Written (kept count k d p ds ps) ds ps ds' ps' × ByModel count k d p ds ps ds' ps' count'
+
 -- ---- the distance that a candidate must beat, among the distances kept: +∞ while there is room, −∞ where nothing is kept
 unfoldable pub lastOr : Float → List Float → Float
 lastOr z [] = z

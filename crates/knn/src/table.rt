@@ -2,8 +2,10 @@
 ghost use mathlib.Core.Path.{_≡_};
 ghost use lib.ListN.{length, replicate};
 ghost use Rattle.floats.specs.Values.{plusZero};
-ghost use Rattle.knn.specs.Candidates.{Written, kept, ByModel};
+ghost use Rattle.knn.specs.Candidates.{Written, kept, ByModel, Offered};
 
+// Laid out as C has it, so that the oracle can lend one.
+#[repr(C)]
 pub struct Table {
     pub dist: [f64; 512],
     pub item: [u32; 512],
@@ -47,4 +49,13 @@ impl Table {
             k: self.k,
         }
     }
+}
+
+// `KnnHeap::offer`: "Offering a candidate alters the lent table where it stands."
+pub fn offer_to(table: &mut Table, distance: f64, place: u32)
+    ensures { λ _. ⌜ Offered (now (table .entry) .count) (now (table .entry) .k) distance place (now (table .entry) .dist) (now (table .entry) .item) (now (table .exit) .dist) (now (table .exit) .item) (now (table .exit) .count) (now (table .exit) .k) ⌝ }
+{
+    let held = *table;
+    let offered = held.offer(distance, place);
+    *table = offered;
 }

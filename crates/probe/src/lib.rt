@@ -8,12 +8,13 @@ ghost use Rattle.floats.specs.Span.{span};
 ghost use Rattle.model.specs.Boxes.{mid, axisDistance, inside, meets, samePlace, route, part, squared, nodeDistance};
 ghost use Rattle.geometry.specs.Sides.{side, sides2, sides3, place2, place3};
 ghost use Rattle.model.specs.Searches.{less};
-ghost use Rattle.knn.specs.Candidates.{Written, kept, ByModel, bar, ordered};
+ghost use Rattle.knn.specs.Candidates.{Written, kept, ByModel, Offered, bar, ordered};
 use geometry::axis;
 use geometry::plane::Point2D;
 use geometry::plane::Rectangle;
 use geometry::space::Cube;
 use geometry::space::Point3D;
+use knn::table::Table;
 
 #[no_mangle]
 pub extern "C" fn probe_to_bits(x: f64) -> u64
@@ -183,6 +184,13 @@ pub extern "C" fn probe_offer(
     ensures model { λ r. ⌜ ByModel count k distance place (now (dist .entry)) (now (item .entry)) (now (dist .exit)) (now (item .exit)) r ⌝ }
 {
     knn::offer(dist, item, count, k, distance, place)
+}
+
+#[no_mangle]
+pub extern "C" fn probe_offer_to(table: &mut Table, distance: f64, place: u32)
+    ensures { λ _. ⌜ Offered (now (table .entry) .count) (now (table .entry) .k) distance place (now (table .entry) .dist) (now (table .entry) .item) (now (table .exit) .dist) (now (table .exit) .item) (now (table .exit) .count) (now (table .exit) .k) ⌝ }
+{
+    knn::table::offer_to(table, distance, place);
 }
 
 #[no_mangle]

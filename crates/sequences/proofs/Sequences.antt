@@ -1,37 +1,19 @@
 -- Any sequence of the host's calls on one tree's pieces is the model's run of these calls; so after it the points held are the accepted inserts less the successful
 -- deletes, counted since the last accepted creation or clear. Over both trees. Assumes nothing.
 use mathlib.Core.Path.{_≡_, refl, sym, subst}
-use mathlib.Core.List.{List, [], _∷_, map}
+use mathlib.Core.List.{List, [], _∷_}
 use Prim.Native.Nat.{ℕ, _≤_}
 use lib.Dec.{T}
 use lib.ListN.{length}
 use Rattle.model.specs.Boxes.{Side, acceptable}
-use Rattle.model.specs.Calls.{Kind, Plan, State, misfit, broken, tree, empty, Call, Ask, Query, step}
+use Rattle.model.specs.Calls.{Kind, Plan, State, misfit, broken, tree, empty, Ask, Query, step}
 use Rattle.model.specs.History.{run, ledger, blank}
 use Rattle.model.specs.Soundness.{All}
 use Rattle.model.proofs.After.{Balanced, ask-same, held-after-creation}
 use Rattle.model.proofs.Calls.{Proper, Regular}
 use Rattle.model.proofs.Inside.{F64Side}
 use Rattle.trees.specs.Pieces.{Pieces, Says, Does, Asks, Searches}
-
--- a call that was made: the pieces that it left, its reply and its count
-pub record Made : Type 0 where
-  pub call : Call
-  pub left : Pieces
-  pub reply : ℕ
-  pub figure : ℕ
-
-abbrev pub calls : List Made → List Call
-calls ms = map (λ (m : Made). m .call) ms
-
--- each call was made on the pieces that the one before it left
-abbrev pub Runs : Kind → Pieces → List Made → Type 0
-Runs k s [] = Unit {0}
-Runs k s (m ∷ ms) = Does k (m .call) s (m .left) (m .reply) (m .figure) × Runs k (m .left) ms
-
-abbrev pub finally : Pieces → List Made → Pieces
-finally s [] = s
-finally s (m ∷ ms) = finally (m .left) ms
+use Rattle.sequences.specs.Runs.{Made, calls, Runs, finally}
 
 pub runs-says : (k : Kind) (s : Pieces) (ms : List Made) → Runs k s ms → (a : State) → Says k s a → Says k (finally s ms) (run k a (calls ms))
 unfolding run Does

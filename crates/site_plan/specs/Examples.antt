@@ -1,7 +1,7 @@
 -- The site-plan examples that document 01 marks P: what the definitions give, and what the document says. Boundary (0,0,8,8), payloads distinct. Definitions only.
-use Prim.Native.Nat.{ℕ, suc}
-use mathlib.Core.List.{List, [], _∷_, map}
-use lib.ListN.{getD, replicate}
+use Prim.Native.Nat.{ℕ, zero, suc}
+use mathlib.Core.List.{List, [], _∷_, _++_, map}
+use lib.ListN.{getD}
 use lib.Ieee.{Float, binary64, mul, ofBits, toBits}
 use Rattle.floats.specs.Span.{span}
 use Rattle.model.specs.Boxes.{Side}
@@ -81,6 +81,9 @@ p41 = point four one 41
 abbrev pub p11 : Point
 p11 = point one one 11
 
+abbrev pub p00 : Point
+p00 = point zero-bits zero-bits 5
+
 -- the state after a creation with this capacity, and these calls
 unfoldable pub after : ℕ → List Call → State
 after cap cs = run quadtree broken (Create plan cap ∷ cs)
@@ -88,10 +91,13 @@ after cap cs = run quadtree broken (Create plan cap ∷ cs)
 unfoldable pub payloads : List Point → List ℕ
 payloads ps = map (λ (p : Point). p .payload) ps
 
--- what a call gives: its number, its count or yes or no, and the payloads of its answer
-unfoldable pub gives : State → Call → List ℕ
-unfolding payloads
-gives s k = let o = step quadtree s k in number (o .reply) ∷ o .figure ∷ payloads (o .points)
+-- a row of the table: numbers, or what a call gives: its reply number, its count or yes or no, and the points of its answer
+pub data Row : Type 0 where
+  numbers : List ℕ → Row
+  answer : ℕ → ℕ → List Point → Row
+
+unfoldable pub gives : State → Call → Row
+gives s k = let o = step quadtree s k in answer (number (o .reply)) (o .figure) (o .points)
 
 -- the number of nodes and the payloads held; and the payloads held in the child with the number i
 unfoldable pub shape : State → List ℕ
@@ -111,26 +117,37 @@ quadrant i misfit = []
 quadrant i broken = []
 quadrant i (tree t) = child i (t .root)
 
+-- n points in one place, "payloads distinct"
+unfoldable pub many : ℕ → List Point
+many zero = []
+many (suc n) = many n ++ (point one one n ∷ [])
+
 -- n points held
 unfoldable pub holding : ℕ → State
-holding n = tree (record { boundary = plan; capacity = 512; root = leaf (replicate n a) })
+unfolding many
+holding n = tree (record { boundary = plan; capacity = 512; root = leaf (many n) })
+
+-- and the calls that store them
+unfoldable pub filling : ℕ → List Call
+unfolding many
+filling n = map Insert (many n)
 
 unfoldable pub full : State
 unfolding holding
 full = holding 512
 
 -- ---- the table: what the definitions give
-unfoldable pub given : List (List ℕ)
-unfolding after gives shape quadrant full payloads
+unfoldable pub given : List Row
+unfolding after gives shape quadrant full
 given =
     -- "`span`(−3·2^−55, 1) is 1 + 2^−52; `span`(0, 0) is 0; `span`(1, 0) is −1."
-    (toBits binary64 (span binary64 (f64 0xbc98_0000_0000_0000) (f64 one)) ∷ toBits binary64 (span binary64 (f64 zero-bits) (f64 zero-bits)) ∷ toBits binary64 (span binary64 (f64 one) (f64 zero-bits)) ∷ [])
+    numbers (toBits binary64 (span binary64 (f64 0xbc98_0000_0000_0000) (f64 one)) ∷ toBits binary64 (span binary64 (f64 zero-bits) (f64 zero-bits)) ∷ toBits binary64 (span binary64 (f64 one) (f64 zero-bits)) ∷ [])
     -- "(8,8) is inside; (8,8.5) gets 1, also with 512 held."
     ∷ gives (after 1 []) (Insert (point eight eight 1))
     ∷ gives (after 1 []) (Insert (point eight eight-and-half 1))
-    ∷ gives full (Insert (point eight eight-and-half 1))
+    ∷ gives full (Insert (point eight eight-and-half 512))
     -- and inside with 512 held it gets 5
-    ∷ gives full (Insert (point eight eight 1))
+    ∷ gives full (Insert (point eight eight 512))
     -- "Extent 0 is accepted, −1 gets 4; 2^500 is accepted, the next double gets 4. Capacity 0 with a NaN boundary gets 3."
     ∷ gives broken (Create (side zero-bits zero-bits ∷ side zero-bits eight ∷ []) 1)
     ∷ gives broken (Create (side zero-bits minus-one ∷ side zero-bits eight ∷ []) 1)
@@ -138,10 +155,10 @@ given =
     ∷ gives broken (Create (side zero-bits (suc largest) ∷ side zero-bits eight ∷ []) 1)
     ∷ gives broken (Create (side not-a-number eight ∷ side zero-bits eight ∷ []) 0)
     -- "Capacity 1, (4,1) then (1,1): 5 nodes, (4,1) in NE."
-    ∷ shape (after 1 (Insert p41 ∷ Insert p11 ∷ []))
-    ∷ quadrant 1 (after 1 (Insert p41 ∷ Insert p11 ∷ []))
+    ∷ numbers (shape (after 1 (Insert p41 ∷ Insert p11 ∷ [])))
+    ∷ numbers (quadrant 1 (after 1 (Insert p41 ∷ Insert p11 ∷ [])))
     -- "Capacity 2, a(1,1), b(5,1), c(1,5); delete c: one node with list b, a. Nearest 1 to (3,1) is then b; before c came it was a."
-    ∷ shape (after 2 (Insert a ∷ Insert b ∷ Insert c ∷ Delete c ∷ []))
+    ∷ numbers (shape (after 2 (Insert a ∷ Insert b ∷ Insert c ∷ Delete c ∷ [])))
     ∷ gives (after 2 (Insert a ∷ Insert b ∷ Insert c ∷ Delete c ∷ [])) (Ask (Nearest (place three one) 1 512))
     ∷ gives (after 2 (Insert a ∷ Insert b ∷ [])) (Ask (Nearest (place three one) 1 512))
     -- "Radius −1 and NaN give nothing; −0 at (1,1) gives a."
@@ -154,36 +171,36 @@ given =
     -- "With (4,1) and (1,1) held, box (4,0,0,8) gives (4,1)."
     ∷ gives (after 1 (Insert p41 ∷ Insert p11 ∷ [])) (Ask (Box (side four zero-bits ∷ side zero-bits eight ∷ []) 512))
     -- "Centre (2^−540, 0), radius 2^−600: (0,0) is given, as both squares compute to 0."
-    ∷ gives (after 1 (Insert (point zero-bits zero-bits 5) ∷ [])) (Ask (Radius (place tiny zero-bits) (f64 tinier) 512))
-    ∷ (toBits binary64 (mul binary64 (f64 tiny) (f64 tiny)) ∷ toBits binary64 (mul binary64 (f64 tinier) (f64 tinier)) ∷ [])
+    ∷ gives (after 1 (Insert p00 ∷ [])) (Ask (Radius (place tiny zero-bits) (f64 tinier) 512))
+    ∷ numbers (toBits binary64 (mul binary64 (f64 tiny) (f64 tiny)) ∷ toBits binary64 (mul binary64 (f64 tinier) (f64 tinier)) ∷ [])
     ∷ []
 
 -- ---- and what the document says
-unfoldable pub said : List (List ℕ)
+unfoldable pub said : List Row
 said =
-    (0x3ff0_0000_0000_0001 ∷ 0 ∷ minus-one ∷ [])
-    ∷ (0 ∷ 0 ∷ [])
-    ∷ (1 ∷ 0 ∷ [])
-    ∷ (1 ∷ 0 ∷ [])
-    ∷ (5 ∷ 0 ∷ [])
-    ∷ (0 ∷ 0 ∷ [])
-    ∷ (4 ∷ 0 ∷ [])
-    ∷ (0 ∷ 0 ∷ [])
-    ∷ (4 ∷ 0 ∷ [])
-    ∷ (3 ∷ 0 ∷ [])
-    ∷ (5 ∷ 11 ∷ 41 ∷ [])
-    ∷ (41 ∷ [])
-    ∷ (1 ∷ 2 ∷ 1 ∷ [])
-    ∷ (0 ∷ 1 ∷ 2 ∷ [])
-    ∷ (0 ∷ 1 ∷ 1 ∷ [])
-    ∷ (0 ∷ 0 ∷ [])
-    ∷ (0 ∷ 0 ∷ [])
-    ∷ (0 ∷ 1 ∷ 1 ∷ [])
-    ∷ (0 ∷ 0 ∷ [])
-    ∷ (0 ∷ 2 ∷ 1 ∷ 3 ∷ [])
-    ∷ (0 ∷ 1 ∷ 41 ∷ [])
-    ∷ (0 ∷ 1 ∷ 5 ∷ [])
-    ∷ (0 ∷ 0 ∷ [])
+    numbers (0x3ff0_0000_0000_0001 ∷ 0 ∷ minus-one ∷ [])
+    ∷ answer 0 0 []
+    ∷ answer 1 0 []
+    ∷ answer 1 0 []
+    ∷ answer 5 0 []
+    ∷ answer 0 0 []
+    ∷ answer 4 0 []
+    ∷ answer 0 0 []
+    ∷ answer 4 0 []
+    ∷ answer 3 0 []
+    ∷ numbers (5 ∷ 11 ∷ 41 ∷ [])
+    ∷ numbers (41 ∷ [])
+    ∷ numbers (1 ∷ 2 ∷ 1 ∷ [])
+    ∷ answer 0 1 (b ∷ [])
+    ∷ answer 0 1 (a ∷ [])
+    ∷ answer 0 0 []
+    ∷ answer 0 0 []
+    ∷ answer 0 1 (a ∷ [])
+    ∷ answer 0 0 []
+    ∷ answer 0 2 (a ∷ c ∷ [])
+    ∷ answer 0 1 (p41 ∷ [])
+    ∷ answer 0 1 (p00 ∷ [])
+    ∷ numbers (0 ∷ 0 ∷ [])
     ∷ []
 
 -- ---- the examples that are not marked, some of which go down to depth 32

@@ -45,6 +45,15 @@ impl Case {
         entries.take(self.count).collect()
     }
 
+    /// The case for a table that is one piece: arrays of 512 places, and a k of 32 bits.
+    pub fn in_one_piece(&self) -> Case {
+        let mut case = self.clone();
+        case.k = case.k.min(u32::MAX as usize);
+        case.dist.resize(512, 0.5);
+        case.item.resize(512, 0x5555_5555);
+        case
+    }
+
     /// The case with its first offers only.
     pub fn first(&self, offers: usize) -> Case {
         Case { offers: self.offers[..offers].to_vec(), ..self.clone() }

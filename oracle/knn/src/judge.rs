@@ -4,6 +4,7 @@ use crate::case::{at_most, item, Case, Entry};
 use crate::lent::Lent;
 use oracle::bits::{alike, hex};
 use oracle::rules::table::Table;
+use ours::knn::Table as Piece;
 use spart::private::Heap;
 
 /// What tells how a table must come out.
@@ -97,4 +98,45 @@ pub fn judge<W: Wanted>(case: &Case) -> Result<(), String> {
         return Err(format!("the count is {count} and not {}", entries.len()));
     }
     lent.holds(&entries)
+}
+
+/// A table in one piece, with places around it that nobody may touch.
+#[repr(C)]
+struct Between {
+    before: [u64; 16],
+    table: Piece,
+    after: [u64; 16],
+}
+
+/// The same of a table that is one piece and is altered where it stands: what it holds at the end.
+pub fn judge_piece<W: Wanted>(case: &Case) -> Result<(), String> {
+    let case = case.in_one_piece();
+    let mut lent = Lent::new(&case);
+    let mut wanted = W::of(&case);
+    let (dist, items) = lent.parts();
+    let table = Piece { dist: array(dist), item: array(items), count: case.count, k: case.k as u32 };
+    let mut between = Box::new(Between { before: [AROUND; 16], table, after: [AROUND; 16] });
+    let table = &mut between.table;
+    for (turn, distance) in case.offers.iter().enumerate() {
+        ours::knn::offer_to(table, *distance, item(turn));
+        wanted.offer(*distance, item(turn));
+    }
+    let (entries, offered) = (wanted.entries(), !case.offers.is_empty());
+    if table.count != entries.len() && offered {
+        return Err(format!("the count is {} and not {}", table.count, entries.len()));
+    }
+    dist.copy_from_slice(&table.dist);
+    items.copy_from_slice(&table.item);
+    if table.k as usize != case.k || between.before != [AROUND; 16] || between.after != [AROUND; 16] {
+        return Err("k or what lies around the table was touched".to_string());
+    }
+    lent.holds(&entries)
+}
+
+const AROUND: u64 = 0xaaaa_aaaa_aaaa_aaaa;
+
+fn array<T: Copy + Default>(slice: &[T]) -> [T; 512] {
+    let mut array = [T::default(); 512];
+    array.copy_from_slice(slice);
+    array
 }

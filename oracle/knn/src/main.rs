@@ -8,7 +8,7 @@ mod lent;
 mod sequences;
 
 use case::Case;
-use judge::{judge, Rule, Rust};
+use judge::{judge, judge_piece, Rule, Rust};
 use oracle::check::Report;
 use oracle::compare::{run as compare, Verdict};
 use oracle::inputs::Form;
@@ -26,6 +26,7 @@ fn main() -> ExitCode {
     };
     let mut report = Report::default();
     offers(&mut report, millions * 1_000_000);
+    offers_to_a_piece(&mut report, millions * 1_000_000);
     children(&mut report, millions * 500_000);
     less(&mut report, millions * 10_000_000);
     if report.all_passed() {
@@ -77,6 +78,24 @@ fn offers(report: &mut Report, most: u64) {
     let mut random = Random::new(3);
     let any = repeat_with(|| sequences::any_table(&mut random)).take(most as usize);
     test(report, "knn offers, any table", judge::<Rule>, any);
+}
+
+/// The same offers to a table that is one piece: sequences of all kinds, and any tables.
+fn offers_to_a_piece(report: &mut Report, most: u64) {
+    let mut random = Random::new(5);
+    let (mut offered, mut turn) = (0, 0);
+    let cases = std::iter::from_fn(|| {
+        let (_, draw) = sequences::KINDS[turn % sequences::KINDS.len()];
+        let case = sequences::sequence(&mut random, draw);
+        let more = offered < most;
+        offered += case.offers.len() as u64;
+        turn += 1;
+        more.then_some(case)
+    });
+    test(report, "knn offers to a table in one piece", judge_piece::<Rust>, cases);
+    let mut random = Random::new(6);
+    let any = repeat_with(|| sequences::any_table(&mut random)).take(most as usize / 10);
+    test(report, "knn offers to any table in one piece", judge_piece::<Rule>, any);
 }
 
 /// Numbers by which all short lists are made.
