@@ -26,7 +26,7 @@ pub struct After {
     pub at: usize,
 }
 
-// Makes a tree, also where one is held. Each of these functions takes one kind of command, and does nothing for another.
+// Makes a tree, also where one is held. Each of these functions is called for one kind of command, and promises nothing for another.
 fn make(
     deep: bool,
     c: Command,

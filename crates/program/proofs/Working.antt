@@ -2,7 +2,7 @@
 use Prim.Native.Nat.{ℕ, zero, suc, _+_, _-_, _≤_, _<_}
 use mathlib.Core.Path.{_≡_, refl, sym, ap, ap₂, _∙_, subst, subst₂, subst⁻¹}
 use mathlib.Core.Logic.{_≢_}
-use mathlib.Core.Bool.{Bool, true, false, cond}
+use mathlib.Core.Bool.{Bool, true, false, cond, not}
 use mathlib.Core.List.{List, [], _∷_, _++_, append-assoc, append-nil, flatten}
 use mathlib.Core.Option.{Option}
 use native.Mathlib.Nat.{sub-zero}
@@ -20,7 +20,7 @@ use Rattle.replies.specs.Lines.{lines}
 use Rattle.replies.specs.Programs.{Feeds, Keeps, Puts, Wrote, longest}
 use Rattle.replies.specs.Runs.{Run, chunk, clip, end, fed}
 use Rattle.replies.proofs.Runs.{any-cutting}
-use Rattle.program.specs.Places.{Digests, Going, Left, Sits, Works, bytesOf, came, carried}
+use Rattle.program.specs.Places.{Digests, Going, Left, Sits, Works, atEnd, bytesOf, came, carried, first, goesOn}
 use Rattle.program.specs.declared.Next.{Next}
 use Rattle.program.specs.declared.Next.the-variants as next
 use Rattle.program.specs.declared.Place.{Place}
@@ -202,9 +202,6 @@ module _ (k : Kind) (p : Place) (text out : List ℕ) where
 
 -- ---- turns from the very start
 module _ (k : Kind) (of : List ℕ → Option Call) where
-  abbrev first : Place
-  first = record { from = 0; end = 0; start = true; held = false; ready = 0; next = next.Read }
-
   pub going-start : (s : Pieces) (text : List ℕ) → Keeps k false s broken → Going k of first s text
   unfolding Left
   going-start s text y = record { seen = []; printed = []; state = broken; keeps = y; goes-on = λ chunks more l. l }
@@ -261,3 +258,24 @@ module _ (k : Kind) (of : List ℕ → Option Call) (p : Place) (text text₁ : 
 
   pub going-on : (s : Pieces) (got : ℕ) (p' : Place) (s' : Pieces) (text' out out' : List ℕ) → Going k of p s text → ((a : State) → Keeps k (p .held) s a → Works k of a p got text₁ p' s' text' out out') → Going k of p' s' text'
   going-on s got p' s' text' out out' g f = going-step k of p s text text₁ got p' s' text' out out' g (carried-same p text text₁ same) f
+
+-- ---- whether a turn is the last
+pub ends-chunk : (n : Next) (got : ℕ) (g : Bool) → n ≡ next.Read → 0 < got → g ≡ true → g ≡ not (atEnd n got)
+unfolding atEnd
+ends-chunk n got g e h eg = subst⁻¹ (λ (m : Next). g ≡ not (atEnd m got)) e (eg ∙ sym (ap not (ne-eqb got 0 (λ z. absurd (omega (arith, h, z))))))
+
+pub ends-work : (n : Next) (got : ℕ) (g : Bool) → n ≡ next.Work → g ≡ true → g ≡ not (atEnd n got)
+unfolding atEnd
+ends-work n got g e eg = subst⁻¹ (λ (m : Next). g ≡ not (atEnd m got)) e eg
+
+pub ends-end : (n : Next) (got : ℕ) → n ≡ next.Read → got ≤ 0 → goesOn next.Done ≡ not (atEnd n got)
+unfolding atEnd goesOn
+ends-end n got e h = subst⁻¹ (λ (m : Next). false ≡ not (atEnd m got)) e (sym (ap not (eq-eqb got 0 (omega (arith, h)))))
+
+pub ends-done : (n : Next) (got : ℕ) → n ≡ next.Done → goesOn next.Done ≡ not (atEnd n got)
+unfolding atEnd goesOn
+ends-done n got e = subst⁻¹ (λ (m : Next). false ≡ not (atEnd m got)) e refl
+
+-- the place where a program begins, however the code has it
+pub begins : (k : Kind) (of : List ℕ → Option Call) (p : Place) (s : Pieces) (text out : List ℕ) → p ≡ first → Keeps k false s broken → Going k of p s text × Sits k p text out
+begins k of p s text out e h = (subst⁻¹ (λ (q : Place). Going k of q s text) e (going-start k of s text h), subst⁻¹ (λ (q : Place). Sits k q text out) e (sits-start k of text out))

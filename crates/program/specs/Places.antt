@@ -28,6 +28,16 @@ goesOn next.Read = true
 goesOn next.Work = true
 goesOn next.Done = false
 
+-- a turn is the last: where the program reads and nothing comes, the input is at its end
+unfoldable pub atEnd : Next → (got : ℕ) → Bool
+atEnd next.Read got = eqb got 0
+atEnd next.Work got = false
+atEnd next.Done got = true
+
+-- where a program begins: the very start of the input is ahead, and there is no tree
+abbrev pub first : Place
+first = record { from = 0; end = 0; start = true; held = false; ready = 0; next = next.Read }
+
 -- a place is right in its text: where the program reads, no line has ended and few bytes are carried; where it works, there was no room for another line
 pub record Sits (k : Kind) (p : Place) (text out : List ℕ) : Type 0 where
   pub ordered : p .from ≤ p .end

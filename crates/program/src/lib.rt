@@ -10,7 +10,7 @@ ghost use Rattle.model.specs.Calls.{broken};
 ghost use Rattle.trees.specs.Pieces.{pieces};
 ghost use Rattle.tree.specs.Depths.{kind};
 ghost use Rattle.replies.specs.Programs.{Keeps, longest};
-ghost use Rattle.program.specs.Places.{goesOn};
+ghost use Rattle.program.specs.Places.{first, goesOn};
 ghost use Rattle.program.specs.declared.Next.the-variants.{Read};
 use work::work;
 
@@ -86,6 +86,20 @@ fn goes_on(next: Next) -> bool
     }
 }
 
+// Where a program begins.
+fn begin() -> Place
+    ensures { λ r. ⌜ r ≡ first ⌝ }
+{
+    Place {
+        from: 0,
+        end: 0,
+        start: true,
+        held: false,
+        ready: 0,
+        next: Next::Read,
+    }
+}
+
 // Answers the records of standard input on standard output, from pieces that hold no tree, till the input ends or answers cannot be written.
 pub fn run(
     deep: bool,
@@ -98,14 +112,7 @@ pub fn run(
 )
     requires { ⌜ (133 < length (now text)) × (longest (kind deep .axes) ≤ length (now out)) × Keeps (kind deep) false (pieces (now head) (now nodes) (now links) (now points)) broken ⌝ }
 {
-    let mut place = Place {
-        from: 0,
-        end: 0,
-        start: true,
-        held: false,
-        ready: 0,
-        next: Next::Read,
-    };
+    let mut place = begin();
     let mut going = true;
     // Nothing says that the input ends, so turns are counted.
     let mut turns = u64::MAX;

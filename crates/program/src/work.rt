@@ -1,4 +1,6 @@
 // One turn of a program: it answers what is there, and says what comes next. It reads and writes no file.
+ghost use mathlib.Core.Bool.{not, true};
+ghost use mathlib.Core.Path.{_≡_};
 ghost use Prim.Native.Nat.{_+_, _≤_};
 ghost use lib.ListN.{length};
 ghost use Rattle.model.specs.Calls.{State};
@@ -6,7 +8,7 @@ ghost use Rattle.trees.specs.Pieces.{pieces};
 ghost use Rattle.tree.specs.Depths.{kind};
 ghost use Rattle.replies.specs.Programs.{Keeps, longest};
 ghost use Rattle.commands.specs.Commands.{says};
-ghost use Rattle.program.specs.Places.{Digests, Sits, Works, bytesOf};
+ghost use Rattle.program.specs.Places.{Digests, Sits, Works, atEnd, bytesOf, goesOn};
 use crate::Next;
 use crate::Place;
 use crate::stream::feed;
@@ -28,6 +30,7 @@ fn digest(
     requires { ⌜ (place .from ≤ end) × (end ≤ length (now text)) × (longest (kind deep .axes) ≤ length (now out)) ⌝ }
     ensures { λ r. ⌜ ((a : State) → Keeps (kind deep) (place .held) (pieces (now (head .entry)) (now (nodes .entry)) (now (links .entry)) (now (points .entry))) a → Digests (kind deep) (says deep) a (place .start) (bytesOf (place .from) end (now (text .entry))) r (pieces (now (head .exit)) (now (nodes .exit)) (now (links .exit)) (now (points .exit))) (now (text .exit)) (now (out .entry)) (now (out .exit))) ⌝ }
     ensures sits { λ r. ⌜ Sits (kind deep) r (now (text .exit)) (now (out .exit)) ⌝ }
+    ensures more { λ r. ⌜ goesOn (r .next) ≡ true ⌝ }
 {
     let from = place.from;
     let first = place.start;
@@ -87,6 +90,7 @@ pub fn work(
     requires room { ⌜ longest (kind deep .axes) ≤ length (now out) ⌝ }
     ensures { λ r. ⌜ ((a : State) → Keeps (kind deep) (place .held) (pieces (now (head .entry)) (now (nodes .entry)) (now (links .entry)) (now (points .entry))) a → Works (kind deep) (says deep) a place got (now (text .entry)) r (pieces (now (head .exit)) (now (nodes .exit)) (now (links .exit)) (now (points .exit))) (now (text .exit)) (now (out .entry)) (now (out .exit))) ⌝ }
     ensures sits { λ r. ⌜ Sits (kind deep) r (now (text .exit)) (now (out .exit)) ⌝ }
+    ensures ends { λ r. ⌜ goesOn (r .next) ≡ not (atEnd (place .next) got) ⌝ }
 {
     let from = place.from;
     let end = place.end;

@@ -79,7 +79,7 @@ pub struct Spot {
     pub before: u32,
 }
 
-// The payload is asked first: it is one word, and most faults differ in it.
+// The payload is asked first: it is one word, and most points differ in it.
 fn same_at(deep: bool, points: &[u8], p: u32, point: Point3D, mark: u32) -> bool
     ensures { λ r. ⌜ r ≡ same (record { at = place deep point; payload = mark }) (pointAt (kind deep .axes) (words (now (points .entry))) p) ⌝ }
 {

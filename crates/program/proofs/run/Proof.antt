@@ -5,7 +5,7 @@ use Rattle.trees.specs.Pieces.{pieces}
 use Rattle.tree.specs.Depths.{kind}
 use Rattle.commands.specs.Commands.{says}
 use Rattle.program.specs.Places.{Going, Sits}
-use Rattle.program.proofs.Working.{going-on, going-start, length-rest, sits-again, sits-start}
+use Rattle.program.proofs.Working.{begins, going-on, length-rest, sits-again}
 use borrow.Rule.Slice.PartMut.{take-put}
 use Prim.Native.Nat.{_-_}
 use borrow.Author.Needs.{needs}
@@ -20,8 +20,11 @@ Inv-loop deep head₀ nodes₀ links₀ points₀ text₀ out₀ place₀ going�
 abbrev μ-loop : tie.MeasureT-loop
 μ-loop deep head₀ nodes₀ links₀ points₀ text₀ out₀ place₀ going₀ turns₀ head nodes links points text out place going turns = turns
 
+begin-requires : tie.Need-begin-requires Inv-loop μ-loop
+begin-requires c κs = search needs
+
 loop-holds : tie.Need-loop-holds Inv-loop μ-loop
-loop-holds c = (going-start (kind (c .before .before .before .before .before .before .args .deep)) (says (c .before .before .before .before .before .before .args .deep)) _ _ ((c .before .before .before .before .before .before .pre .2)), sits-start (kind (c .before .before .before .before .before .before .args .deep)) (says (c .before .before .before .before .before .before .args .deep)) _ _, refl, refl, refl, refl, refl, refl)
+loop-holds c = (begins (kind (c .before .before .before .before .before .before .before .args .deep)) (says (c .before .before .before .before .before .before .before .args .deep)) _ _ _ ((c .before .before .before .before .before .before .before .args .out .now)) (c .begin .ensures) ((c .before .before .before .before .before .before .before .pre .2)) .0, begins (kind (c .before .before .before .before .before .before .before .args .deep)) (says (c .before .before .before .before .before .before .before .args .deep)) _ (pieces ((c .before .before .before .before .before .before .before .args .head .now)) ((c .before .before .before .before .before .before .before .args .nodes .now)) ((c .before .before .before .before .before .before .before .args .links .now)) ((c .before .before .before .before .before .before .before .args .points .now))) _ _ (c .begin .ensures) ((c .before .before .before .before .before .before .before .pre .2)) .1, refl, refl, refl, refl, refl, refl)
 
 sub-fetch : tie.Need-sub-fetch Inv-loop μ-loop
 sub-fetch c = search needs
@@ -33,10 +36,10 @@ part-fetch-end : tie.Need-part-fetch-end Inv-loop μ-loop
 part-fetch-end c = search needs
 
 fetch-requires : tie.Need-fetch-requires Inv-loop μ-loop
-fetch-requires c κs = λ e. omega (arith, (c .before .before .before .loop .inv .1 .reads) e .0, (c .before .before .before .loop .inv .6), (c .before .before .before .before .before .before .before .before .before .before .pre .0), length-rest ((c .before .before .before .loop .text)) ((c .before .before .before .loop .place .end)))
+fetch-requires c κs = λ e. omega (arith, (c .before .before .before .loop .inv .1 .reads) e .0, (c .before .before .before .loop .inv .6), (c .before .before .before .before .before .before .before .before .before .before .before .pre .0), length-rest ((c .before .before .before .loop .text)) ((c .before .before .before .loop .place .end)))
 
 work-requires : tie.Need-work-requires Inv-loop μ-loop
-work-requires c κs = (sits-again (kind (c .before .before .before .before .before .before .before .before .before .before .before .before .before .before .before .before .before .before .before .args .deep)) (says (c .before .before .before .before .before .before .before .before .before .before .before .before .before .before .before .before .before .before .before .args .deep)) _ ((c .before .before .before .before .before .before .before .before .before .before .before .before .loop .text)) _ (take-put ((c .before .before .before .before .before .before .before .before .before .before .before .before .loop .place .end)) (length ((c .before .before .before .before .before .before .before .before .before .before .before .before .loop .text)) - (c .before .before .before .before .before .before .before .before .before .before .before .before .loop .place .end)) ((c .before .before .before .before .before .before .before .before .before .before .before .before .loop .text)) ((c .before .before .before .before .before .before .before .before .fetch .last .1 .1 .0)) ((c .before .before .before .before .before .before .before .before .before .before .before .before .loop .inv .1 .within))) _ (c .before .before .before .before .before .before .before .before .before .before .before .before .loop .inv .1) (c .before .before .before .before .before .before .before .text .given .1), (omega (arith, (c .before .before .before .before .before .before .before .before .fetch .ensures), (c .before .before .before .before .before .before .before .text .given .1), length-rest ((c .before .before .before .before .before .before .before .before .before .before .before .before .loop .text)) ((c .before .before .before .before .before .before .before .before .before .before .before .before .loop .place .end)), (c .before .before .before .before .before .before .before .before .before .before .before .before .loop .inv .1 .within)), omega (arith, (c .before .before .before .before .before .before .before .before .before .before .before .before .before .before .before .before .before .before .before .pre .1), (c .before .before .before .before .before .before .before .before .before .before .before .before .loop .inv .7))))
+work-requires c κs = (sits-again (kind (c .before .before .before .before .before .before .before .before .before .before .before .before .before .before .before .before .before .before .before .before .args .deep)) (says (c .before .before .before .before .before .before .before .before .before .before .before .before .before .before .before .before .before .before .before .before .args .deep)) _ ((c .before .before .before .before .before .before .before .before .before .before .before .before .loop .text)) _ (take-put ((c .before .before .before .before .before .before .before .before .before .before .before .before .loop .place .end)) (length ((c .before .before .before .before .before .before .before .before .before .before .before .before .loop .text)) - (c .before .before .before .before .before .before .before .before .before .before .before .before .loop .place .end)) ((c .before .before .before .before .before .before .before .before .before .before .before .before .loop .text)) ((c .before .before .before .before .before .before .before .before .fetch .last .1 .1 .0)) ((c .before .before .before .before .before .before .before .before .before .before .before .before .loop .inv .1 .within))) _ (c .before .before .before .before .before .before .before .before .before .before .before .before .loop .inv .1) (c .before .before .before .before .before .before .before .text .given .1), (omega (arith, (c .before .before .before .before .before .before .before .before .fetch .ensures), (c .before .before .before .before .before .before .before .text .given .1), length-rest ((c .before .before .before .before .before .before .before .before .before .before .before .before .loop .text)) ((c .before .before .before .before .before .before .before .before .before .before .before .before .loop .place .end)), (c .before .before .before .before .before .before .before .before .before .before .before .before .loop .inv .1 .within)), omega (arith, (c .before .before .before .before .before .before .before .before .before .before .before .before .before .before .before .before .before .before .before .before .pre .1), (c .before .before .before .before .before .before .before .before .before .before .before .before .loop .inv .7))))
 
 sub-hand-on : tie.Need-sub-hand-on Inv-loop μ-loop
 sub-hand-on c = search needs
@@ -60,7 +63,7 @@ loop-less : tie.Need-loop-less Inv-loop μ-loop
 loop-less c = search needs
 
 loop-again : tie.Need-loop-again Inv-loop μ-loop
-loop-again c = (going-on (kind (c .before .before .before .before .before .before .before .before .before .before .before .before .before .before .before .before .before .before .before .before .before .before .before .before .before .before .before .before .before .before .before .before .before .before .before .before .args .deep)) (says (c .before .before .before .before .before .before .before .before .before .before .before .before .before .before .before .before .before .before .before .before .before .before .before .before .before .before .before .before .before .before .before .before .before .before .before .before .args .deep)) _ ((c .before .before .before .before .before .before .before .before .before .before .before .before .before .before .before .before .before .before .before .before .before .before .before .before .before .before .before .before .before .loop .text)) _ (take-put ((c .before .before .before .before .before .before .before .before .before .before .before .before .before .before .before .before .before .before .before .before .before .before .before .before .before .before .before .before .before .loop .place .end)) (length ((c .before .before .before .before .before .before .before .before .before .before .before .before .before .before .before .before .before .before .before .before .before .before .before .before .before .before .before .before .before .loop .text)) - (c .before .before .before .before .before .before .before .before .before .before .before .before .before .before .before .before .before .before .before .before .before .before .before .before .before .before .before .before .before .loop .place .end)) ((c .before .before .before .before .before .before .before .before .before .before .before .before .before .before .before .before .before .before .before .before .before .before .before .before .before .before .before .before .before .loop .text)) ((c .before .before .before .before .before .before .before .before .before .before .before .before .before .before .before .before .before .before .before .before .before .before .before .before .before .fetch .last .1 .1 .0)) ((c .before .before .before .before .before .before .before .before .before .before .before .before .before .before .before .before .before .before .before .before .before .before .before .before .before .before .before .before .before .loop .inv .1 .within))) _ _ _ _ _ _ _ (c .before .before .before .before .before .before .before .before .before .before .before .before .before .before .before .before .before .before .before .before .before .before .before .before .before .before .before .before .before .loop .inv .0) (c .before .before .before .before .before .before .before .before .before .before .before .before .before .before .before .before .work .ensures .0), (c .before .before .before .before .before .before .before .before .before .before .before .before .before .before .before .before .work .ensures .1), (c .before .before .before .before .before .before .before .before .before .before .before .before .before .before .before .before .work .kept .1 .1 .1 .0) ∙ (c .before .before .before .before .before .before .before .before .before .before .before .before .before .before .before .before .before .before .before .before .before .before .before .before .before .before .before .before .before .loop .inv .2), (c .before .before .before .before .before .before .before .before .before .before .before .before .before .before .before .before .work .kept .1 .1 .1 .1 .0) ∙ (c .before .before .before .before .before .before .before .before .before .before .before .before .before .before .before .before .before .before .before .before .before .before .before .before .before .before .before .before .before .loop .inv .3), (c .before .before .before .before .before .before .before .before .before .before .before .before .before .before .before .before .work .kept .1 .1 .1 .1 .1 .0) ∙ (c .before .before .before .before .before .before .before .before .before .before .before .before .before .before .before .before .before .before .before .before .before .before .before .before .before .before .before .before .before .loop .inv .4), (c .before .before .before .before .before .before .before .before .before .before .before .before .before .before .before .before .work .kept .1 .1 .1 .1 .1 .1 .0) ∙ (c .before .before .before .before .before .before .before .before .before .before .before .before .before .before .before .before .before .before .before .before .before .before .before .before .before .before .before .before .before .loop .inv .5), (c .before .before .before .before .before .before .before .before .before .before .before .before .before .before .before .before .work .kept .1 .1 .1 .1 .1 .1 .1 .0) ∙ (c .before .before .before .before .before .before .before .before .before .before .before .before .before .before .before .before .before .before .before .before .before .before .before .before .text .given .1) ∙ (c .before .before .before .before .before .before .before .before .before .before .before .before .before .before .before .before .before .before .before .before .before .before .before .before .before .before .before .before .before .loop .inv .6), (c .before .before .before .before .before .before .before .before .before .before .before .before .before .before .before .before .work .kept .1 .1 .1 .1 .1 .1 .1 .1 .0) ∙ (c .before .before .before .before .before .before .before .before .before .before .before .before .before .before .before .before .before .before .before .before .before .before .before .before .before .before .before .before .before .loop .inv .7))
+loop-again c = (going-on (kind (c .before .before .before .before .before .before .before .before .before .before .before .before .before .before .before .before .before .before .before .before .before .before .before .before .before .before .before .before .before .before .before .before .before .before .before .before .before .args .deep)) (says (c .before .before .before .before .before .before .before .before .before .before .before .before .before .before .before .before .before .before .before .before .before .before .before .before .before .before .before .before .before .before .before .before .before .before .before .before .before .args .deep)) _ ((c .before .before .before .before .before .before .before .before .before .before .before .before .before .before .before .before .before .before .before .before .before .before .before .before .before .before .before .before .before .loop .text)) _ (take-put ((c .before .before .before .before .before .before .before .before .before .before .before .before .before .before .before .before .before .before .before .before .before .before .before .before .before .before .before .before .before .loop .place .end)) (length ((c .before .before .before .before .before .before .before .before .before .before .before .before .before .before .before .before .before .before .before .before .before .before .before .before .before .before .before .before .before .loop .text)) - (c .before .before .before .before .before .before .before .before .before .before .before .before .before .before .before .before .before .before .before .before .before .before .before .before .before .before .before .before .before .loop .place .end)) ((c .before .before .before .before .before .before .before .before .before .before .before .before .before .before .before .before .before .before .before .before .before .before .before .before .before .before .before .before .before .loop .text)) ((c .before .before .before .before .before .before .before .before .before .before .before .before .before .before .before .before .before .before .before .before .before .before .before .before .before .fetch .last .1 .1 .0)) ((c .before .before .before .before .before .before .before .before .before .before .before .before .before .before .before .before .before .before .before .before .before .before .before .before .before .before .before .before .before .loop .inv .1 .within))) _ _ _ _ _ _ _ (c .before .before .before .before .before .before .before .before .before .before .before .before .before .before .before .before .before .before .before .before .before .before .before .before .before .before .before .before .before .loop .inv .0) (c .before .before .before .before .before .before .before .before .before .before .before .before .before .before .before .before .work .ensures .0), (c .before .before .before .before .before .before .before .before .before .before .before .before .before .before .before .before .work .ensures .1 .0), (c .before .before .before .before .before .before .before .before .before .before .before .before .before .before .before .before .work .kept .1 .1 .1 .0) ∙ (c .before .before .before .before .before .before .before .before .before .before .before .before .before .before .before .before .before .before .before .before .before .before .before .before .before .before .before .before .before .loop .inv .2), (c .before .before .before .before .before .before .before .before .before .before .before .before .before .before .before .before .work .kept .1 .1 .1 .1 .0) ∙ (c .before .before .before .before .before .before .before .before .before .before .before .before .before .before .before .before .before .before .before .before .before .before .before .before .before .before .before .before .before .loop .inv .3), (c .before .before .before .before .before .before .before .before .before .before .before .before .before .before .before .before .work .kept .1 .1 .1 .1 .1 .0) ∙ (c .before .before .before .before .before .before .before .before .before .before .before .before .before .before .before .before .before .before .before .before .before .before .before .before .before .before .before .before .before .loop .inv .4), (c .before .before .before .before .before .before .before .before .before .before .before .before .before .before .before .before .work .kept .1 .1 .1 .1 .1 .1 .0) ∙ (c .before .before .before .before .before .before .before .before .before .before .before .before .before .before .before .before .before .before .before .before .before .before .before .before .before .before .before .before .before .loop .inv .5), (c .before .before .before .before .before .before .before .before .before .before .before .before .before .before .before .before .work .kept .1 .1 .1 .1 .1 .1 .1 .0) ∙ (c .before .before .before .before .before .before .before .before .before .before .before .before .before .before .before .before .before .before .before .before .before .before .before .before .text .given .1) ∙ (c .before .before .before .before .before .before .before .before .before .before .before .before .before .before .before .before .before .before .before .before .before .before .before .before .before .before .before .before .before .loop .inv .6), (c .before .before .before .before .before .before .before .before .before .before .before .before .before .before .before .before .work .kept .1 .1 .1 .1 .1 .1 .1 .1 .0) ∙ (c .before .before .before .before .before .before .before .before .before .before .before .before .before .before .before .before .before .before .before .before .before .before .before .before .before .before .before .before .before .loop .inv .7))
 
 same-length : tie.Need-same-length Inv-loop μ-loop
 same-length c = search needs
@@ -110,6 +113,7 @@ run-spec =
     (tie.spec
     Inv-loop
     μ-loop
+    begin-requires
     loop-holds
     sub-fetch
     part-fetch-start

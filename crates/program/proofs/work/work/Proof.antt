@@ -1,7 +1,7 @@
 use native.Mathlib.Omega.{arith}
 use Rattle.tree.specs.Depths.{kind}
 use Rattle.commands.specs.Commands.{says}
-use Rattle.program.proofs.Working.{sits-end, sits-over, works-chunk, works-end, works-on, works-over}
+use Rattle.program.proofs.Working.{ends-chunk, ends-done, ends-end, ends-work, sits-end, sits-over, works-chunk, works-end, works-on, works-over}
 use borrow.Author.Needs.{needs}
 use Rattle.program.proofs.work.work.Statement.{statement}
 use Rattle.program.proofs.work.work.Tie as tie
@@ -40,7 +40,7 @@ same-length-6 : tie.Need-same-length-6
 same-length-6 c = search needs
 
 returns : tie.Need-returns
-returns c = (works-chunk (kind (c .before .before .before .before .before .before .before .before .before .before .before .before .before .before .before .before .before .before .before .before .before .before .before .before .before .before .before .before .args .deep)) (says (c .before .before .before .before .before .before .before .before .before .before .before .before .before .before .before .before .before .before .before .before .before .before .before .before .before .before .before .before .args .deep)) _ _ _ _ _ (c .before .before .before .before .before .before .before .before .before .before .before .before .before .before .before .before .before .before .before .before .enum-told2 .given .1) ((c .before .before .before .before .before .before .before .before .before .before .before .before .before .before .before .before .before .before .before .before .before .before .before .before .before .before .before .before .pre .0 .ordered)) (c .before .before .before .before .before .before .before .before .before .before .before .before .before .before .before .before .before .before .before .if1 .taken) _ _ _ _ (c .before .before .before .before .before .before .before .before .before .before .before .before .digest2 .ensures .0), (c .before .before .before .before .before .before .before .before .before .before .before .before .digest2 .ensures .1))
+returns c = (works-chunk (kind (c .before .before .before .before .before .before .before .before .before .before .before .before .before .before .before .before .before .before .before .before .before .before .before .before .before .before .before .before .args .deep)) (says (c .before .before .before .before .before .before .before .before .before .before .before .before .before .before .before .before .before .before .before .before .before .before .before .before .before .before .before .before .args .deep)) _ _ _ _ _ (c .before .before .before .before .before .before .before .before .before .before .before .before .before .before .before .before .before .before .before .before .enum-told2 .given .1) ((c .before .before .before .before .before .before .before .before .before .before .before .before .before .before .before .before .before .before .before .before .before .before .before .before .before .before .before .before .pre .0 .ordered)) (c .before .before .before .before .before .before .before .before .before .before .before .before .before .before .before .before .before .before .before .if1 .taken) _ _ _ _ (c .before .before .before .before .before .before .before .before .before .before .before .before .digest2 .ensures .0), (c .before .before .before .before .before .before .before .before .before .before .before .before .digest2 .ensures .1 .0, ends-chunk _ _ _ (c .before .before .before .before .before .before .before .before .before .before .before .before .before .before .before .before .before .before .before .before .enum-told2 .given .1) (c .before .before .before .before .before .before .before .before .before .before .before .before .before .before .before .before .before .before .before .if1 .taken) (c .before .before .before .before .before .before .before .before .before .before .before .before .digest2 .ensures .1 .1)))
 
 sub-finish : tie.Need-sub-finish
 sub-finish c = search needs
@@ -76,7 +76,7 @@ same-length-12 : tie.Need-same-length-12
 same-length-12 c = search needs
 
 returns-2 : tie.Need-returns-2
-returns-2 c = (works-on (kind (c .before .before .before .before .before .before .before .before .before .before .before .before .before .before .before .before .before .before .before .before .before .before .before .before .before .before .before .args .deep)) (says (c .before .before .before .before .before .before .before .before .before .before .before .before .before .before .before .before .before .before .before .before .before .before .before .before .before .before .before .args .deep)) _ _ _ _ _ (c .before .before .before .before .before .before .before .before .before .before .before .before .before .before .before .before .before .before .before .enum-told .given .1) _ _ _ _ (c .before .before .before .before .before .before .before .before .before .before .before .before .digest .ensures .0), (c .before .before .before .before .before .before .before .before .before .before .before .before .digest .ensures .1))
+returns-2 c = (works-on (kind (c .before .before .before .before .before .before .before .before .before .before .before .before .before .before .before .before .before .before .before .before .before .before .before .before .before .before .before .args .deep)) (says (c .before .before .before .before .before .before .before .before .before .before .before .before .before .before .before .before .before .before .before .before .before .before .before .before .before .before .before .args .deep)) _ _ _ _ _ (c .before .before .before .before .before .before .before .before .before .before .before .before .before .before .before .before .before .before .before .enum-told .given .1) _ _ _ _ (c .before .before .before .before .before .before .before .before .before .before .before .before .digest .ensures .0), (c .before .before .before .before .before .before .before .before .before .before .before .before .digest .ensures .1 .0, ends-work _ _ _ (c .before .before .before .before .before .before .before .before .before .before .before .before .before .before .before .before .before .before .before .enum-told .given .1) (c .before .before .before .before .before .before .before .before .before .before .before .before .digest .ensures .1 .1)))
 
 same-length-13 : tie.Need-same-length-13
 same-length-13 c = search needs
@@ -85,10 +85,10 @@ same-length-14 : tie.Need-same-length-14
 same-length-14 c = search needs
 
 returns-3 : tie.Need-returns-3
-returns-3 c = (works-end (kind (c .before .before .before .before .before .before .before .before .before .before .before .before .before .before .before .args .deep)) (says (c .before .before .before .before .before .before .before .before .before .before .before .before .before .before .before .args .deep)) _ _ _ _ _ _ _ (c .before .before .before .before .before .before .before .enum-told2 .given .1) (c .before .before .before .before .before .before .if1 .left) ((c .before .before .before .before .before .before .before .before .before .before .before .before .before .before .before .pre .0 .reads) (c .before .before .before .before .before .before .before .enum-told2 .given .1) .1) (omega (arith, (c .before .before .before .before .before .before .before .before .before .before .before .before .before .before .before .pre .1 .1))) ((c .before .before .finish .ensures .1)) (c .before .before .finish .ensures .0), sits-end (kind (c .before .before .before .before .before .before .before .before .before .before .before .before .before .before .before .args .deep)) (c .before .before .before .before .before .before .before .before .before .before .before .before .before .before .before .args .place) _ ((c .before .before .before .before .before .before .before .before .before .before .before .before .before .before .before .args .out .now)) _ _ ((c .before .before .before .before .before .before .before .before .before .before .before .before .before .before .before .pre .0 .within)) ((c .before .before .finish .ensures .1)) ((c .before .before .finish .kept .1 .1 .0)))
+returns-3 c = (works-end (kind (c .before .before .before .before .before .before .before .before .before .before .before .before .before .before .before .args .deep)) (says (c .before .before .before .before .before .before .before .before .before .before .before .before .before .before .before .args .deep)) _ _ _ _ _ _ _ (c .before .before .before .before .before .before .before .enum-told2 .given .1) (c .before .before .before .before .before .before .if1 .left) ((c .before .before .before .before .before .before .before .before .before .before .before .before .before .before .before .pre .0 .reads) (c .before .before .before .before .before .before .before .enum-told2 .given .1) .1) (omega (arith, (c .before .before .before .before .before .before .before .before .before .before .before .before .before .before .before .pre .1 .1))) ((c .before .before .finish .ensures .1)) (c .before .before .finish .ensures .0), (sits-end (kind (c .before .before .before .before .before .before .before .before .before .before .before .before .before .before .before .args .deep)) (c .before .before .before .before .before .before .before .before .before .before .before .before .before .before .before .args .place) _ ((c .before .before .before .before .before .before .before .before .before .before .before .before .before .before .before .args .out .now)) _ _ ((c .before .before .before .before .before .before .before .before .before .before .before .before .before .before .before .pre .0 .within)) ((c .before .before .finish .ensures .1)) ((c .before .before .finish .kept .1 .1 .0)), ends-end _ _ (c .before .before .before .before .before .before .before .enum-told2 .given .1) (c .before .before .before .before .before .before .if1 .left)))
 
 returns-4 : tie.Need-returns-4
-returns-4 c = (works-over (kind (c .before .before .before .before .before .before .before .before .args .deep)) (says (c .before .before .before .before .before .before .before .before .args .deep)) _ _ _ _ _ (c .enum-told3 .given .1), sits-over (kind (c .before .before .before .before .before .before .before .before .args .deep)) (c .before .before .before .before .before .before .before .before .args .place) _ _ ((c .before .before .before .before .before .before .before .before .pre .0 .ordered)) ((c .before .before .before .before .before .before .before .before .pre .0 .within)))
+returns-4 c = (works-over (kind (c .before .before .before .before .before .before .before .before .args .deep)) (says (c .before .before .before .before .before .before .before .before .args .deep)) _ _ _ _ _ (c .enum-told3 .given .1), (sits-over (kind (c .before .before .before .before .before .before .before .before .args .deep)) (c .before .before .before .before .before .before .before .before .args .place) _ _ ((c .before .before .before .before .before .before .before .before .pre .0 .ordered)) ((c .before .before .before .before .before .before .before .before .pre .0 .within)), ends-done _ _ (c .enum-told3 .given .1)))
 
 pub work-spec : {M : Type 1} → statement M
 work-spec =
