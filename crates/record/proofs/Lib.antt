@@ -9,3 +9,4 @@ pub mod Quotes
 pub mod Round
 pub mod Examples
 pub mod Commands
+pub mod Spelling

@@ -1,14 +1,12 @@
 -- Laws of what is written: digits, floats one after the other, and a line. Assumes nothing.
-use Prim.Native.Nat.{ℕ, zero, suc, _+_, _-_, _*_, _/_, _%_, _≤_, _<_}
+use Prim.Native.Nat.{ℕ, suc, _+_, _*_, _≤_, _<_}
 use mathlib.Core.Path.{_≡_, refl, sym, ap, _∙_}
-use mathlib.Core.Logic.{_≢_}
 use mathlib.Core.Bool.{Bool, true, false, cond}
 use mathlib.Core.List.{List, [], _∷_, _++_}
-use native.Mathlib.Nat.{add-zero}
 use native.Mathlib.Omega.{arith}
 use lib.Ieee.{Float, binary64, toBits}
 use lib.ListN.{length, set, length-append}
-use lib.Seq.{sets, set-comm, length-sets}
+use lib.Seq.{sets, length-sets}
 use mir.Val.{boolByte}
 use borrow.Author.Tests.{lt-ltb, le-ltb}
 use Rattle.record.proofs.Parts.{by-lt}
@@ -37,29 +35,6 @@ byte-small false = omega arith
 yes-is : (t : Bool) → 48 + boolByte t ≡ cond t 49 48
 yes-is true = refl
 yes-is false = refl
-
--- a store behind a run of stores may come first
-sets-last : (xs o : List ℕ) (at g : ℕ) → sets (set o (at + length xs) g) at xs ≡ sets o at (xs ++ (g ∷ []))
-sets-last [] o at g = ap (λ (k : ℕ). set o k g) (add-zero at)
-sets-last (x ∷ xs) o at g =
-    let e : at + suc (length xs) ≡ suc at + length xs = omega arith in
-    let d : (at + suc (length xs)) ≢ at = λ q. omega arith in
-    ap (λ (l : List ℕ). sets l (suc at) xs) (set-comm o (at + suc (length xs)) at g x d ∙ ap (λ (k : ℕ). set (set o at x) k g) e)
-    ∙ sets-last xs (set o at x) (suc at) g
-
-pub digit-turn : (i n : ℕ) (o : List ℕ) (at : ℕ) → 0 < i → sets (set o (at + (i - 1)) (glyph (n % 16))) at (spelt 16 (i - 1) (n / 16)) ≡ sets o at (spelt 16 i n)
-unfolding spelt
-digit-turn zero n o at h = absurd (omega arith)
-digit-turn (suc i) n o at h =
-    let e : suc i - 1 ≡ i = omega arith in
-    rw e
-    (ap (λ (k : ℕ). sets (set o (at + k) (glyph (n % 16))) at (spelt 16 i (n / 16))) (sym (spelt-length 16 i (n / 16)))
-    ∙ sets-last (spelt 16 i (n / 16)) o at (glyph (n % 16)))
-
-pub digit-end : (n : ℕ) (o : List ℕ) (at i : ℕ) → i ≤ 0 → sets o at (spelt 16 i n) ≡ o
-unfolding spelt
-digit-end n o at zero h = refl
-digit-end n o at (suc i) h = absurd (omega arith)
 
 -- ---- floats one after the other
 sets-append : (l m o : List ℕ) (n : ℕ) → sets o n (l ++ m) ≡ sets (sets o n l) (n + length l) m

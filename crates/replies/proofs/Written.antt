@@ -1,17 +1,15 @@
 -- Laws of bytes that are written one after the other, and of digits. Assumes nothing.
-use Prim.Native.Nat.{ℕ, zero, suc, _+_, _-_, _*_, _/_, _%_, _≤_, _<_}
+use Prim.Native.Nat.{ℕ, _+_, _*_, _≤_, _<_}
 use mathlib.Core.Path.{_≡_, refl, sym, ap, _∙_, subst}
-use mathlib.Core.Logic.{_≢_}
 use mathlib.Core.Bool.{Bool, true, false}
 use mathlib.Core.List.{List, [], _∷_, _++_, append-assoc, append-nil}
 use native.Mathlib.Nat.{add-zero}
 use native.Mathlib.Omega.{arith}
-use lib.ListN.{length, set, length-append}
-use lib.Seq.{sets, set-comm}
+use lib.ListN.{length, length-append}
+use lib.Seq.{sets}
 use lib.Dec.{ltb}
 use mir.Val.{boolByte}
 use borrow.Author.Tests.{lt-ltb, le-ltb}
-use Rattle.record.proofs.Round.{spelt-length}
 use Rattle.record.specs.Numbers.{glyph, spelt, places, decimal}
 use Rattle.pool.proofs.Lists.{by-lt}
 use Rattle.trees.proofs.Walks.{sets-append}
@@ -44,29 +42,6 @@ letter-small false = omega arith
 pub glyph-is : (d : ℕ) → 48 + d + 7 * boolByte (ltb 9 d) ≡ glyph d
 unfolding glyph
 glyph-is d = by-lt d 10 (λ h. simp (lt-ltb d 10 h, le-ltb 9 d (omega arith)) (omega arith)) (λ h. simp (le-ltb d 10 h, lt-ltb 9 d (omega arith)) (omega arith))
-
--- a store behind a run of stores may come first
-sets-snoc : (xs o : List ℕ) (at g : ℕ) → sets (set o (at + length xs) g) at xs ≡ sets o at (xs ++ (g ∷ []))
-sets-snoc [] o at g = ap (λ (k : ℕ). set o k g) (add-zero at)
-sets-snoc (x ∷ xs) o at g =
-    let e : at + suc (length xs) ≡ suc at + length xs = omega arith in
-    let d : (at + suc (length xs)) ≢ at = λ q. omega arith in
-    ap (λ (l : List ℕ). sets l (suc at) xs) (set-comm o (at + suc (length xs)) at g x d ∙ ap (λ (k : ℕ). set (set o at x) k g) e)
-    ∙ sets-snoc xs (set o at x) (suc at) g
-
-pub spelt-turn : (i n : ℕ) (o : List ℕ) (at : ℕ) → 0 < i → sets (set o (at + (i - 1)) (glyph (n % 10))) at (spelt 10 (i - 1) (n / 10)) ≡ sets o at (spelt 10 i n)
-unfolding spelt
-spelt-turn zero n o at h = absurd (omega arith)
-spelt-turn (suc i) n o at h =
-    let e : suc i - 1 ≡ i = omega arith in
-    rw e
-    (ap (λ (k : ℕ). sets (set o (at + k) (glyph (n % 10))) at (spelt 10 i (n / 10))) (sym (spelt-length 10 i (n / 10)))
-    ∙ sets-snoc (spelt 10 i (n / 10)) o at (glyph (n % 10)))
-
-pub spelt-done : (n : ℕ) (o : List ℕ) (at i : ℕ) → i ≤ 0 → sets o at (spelt 10 i n) ≡ o
-unfolding spelt
-spelt-done n o at zero h = refl
-spelt-done n o at (suc i) h = absurd (omega arith)
 
 -- ---- how many digits
 

@@ -5,7 +5,7 @@ use lib.ListN.{length}
 use lib.Seq.{sets}
 use Rattle.record.proofs.Round.{spelt-length}
 use Rattle.record.specs.Numbers.{spelt}
-use Rattle.replies.proofs.Written.{spelt-turn, spelt-done}
+use Rattle.record.proofs.Spelling.{spelt-turn, spelt-done}
 use borrow.Author.Needs.{needs}
 use Rattle.replies.proofs.spell.Statement.{statement}
 use Rattle.replies.proofs.spell.Tie as tie
@@ -41,7 +41,7 @@ loop-again : tie.Need-loop-again Inv-loop μ-loop
 loop-again c =
     let l = c .before .before .loop in
     let a = c .before .before .before .before .args in
-    (search needs, search needs, (rw (c .glyph .ensures) (spelt-turn (l .i) (l .rest) (l .out) (a .at) (c .before .loop-test .taken)) ∙ l .inv .2))
+    (search needs, search needs, (rw (c .glyph .ensures) (spelt-turn 10 (l .i) (l .rest) (l .out) (a .at) (c .before .loop-test .taken)) ∙ l .inv .2))
 
 add-result : tie.Need-add-result Inv-loop μ-loop
 add-result c = search needs
@@ -53,7 +53,7 @@ returns : tie.Need-returns Inv-loop μ-loop
 returns c =
     let l = c .before .loop in
     let a = c .before .before .before .args in
-    ((ap (λ (j : ℕ). a .at + j) (sym (spelt-length 10 (a .k) (a .n))), (sym (spelt-done (l .rest) (l .out) (a .at) (l .i) (c .loop-test .left)) ∙ l .inv .2)), refl)
+    ((ap (λ (j : ℕ). a .at + j) (sym (spelt-length 10 (a .k) (a .n))), (sym (spelt-done 10 (l .rest) (l .out) (a .at) (l .i) (c .loop-test .left)) ∙ l .inv .2)), refl)
 
 pub spell-spec : {M : Type 1} → statement M
 spell-spec =

@@ -4,7 +4,8 @@ use mathlib.Core.Path.{_≡_, refl, sym, _∙_}
 use lib.ListN.{length}
 use lib.Seq.{sets}
 use Rattle.record.specs.Numbers.{spelt}
-use Rattle.replay_geometry.proofs.Texts.{digit-turn, digit-end, number-put}
+use Rattle.record.proofs.Spelling.{spelt-turn, spelt-done}
+use Rattle.replay_geometry.proofs.Texts.{number-put}
 use borrow.Author.Needs.{needs}
 use Rattle.replay_geometry.proofs.answer.put.Statement.{statement}
 use Rattle.replay_geometry.proofs.answer.put.Tie as tie
@@ -42,7 +43,7 @@ loop-less c = search needs
 loop-again : tie.Need-loop-again Inv-loop μ-loop
 loop-again c =
     let l = c .before .before .loop in
-    (search needs, search needs, (rw (c .glyph .ensures) (digit-turn (l .k) (l .left) (l .out) _ (c .before .loop-test .taken)) ∙ l .inv .2))
+    (search needs, search needs, (rw (c .glyph .ensures) (spelt-turn 16 (l .k) (l .left) (l .out) _ (c .before .loop-test .taken)) ∙ l .inv .2))
 
 add-out-2 : tie.Need-add-out-2 Inv-loop μ-loop
 add-out-2 c = search needs
@@ -59,7 +60,7 @@ same-length c = search needs
 returns : tie.Need-returns Inv-loop μ-loop
 returns c =
     let l = c .before .loop in
-    (number-put _ _ _ _ _ _ (c .before .before .to-bits .ensures) (sym (digit-end (l .left) (l .out) _ (l .k) (c .loop-test .left)) ∙ l .inv .2), refl)
+    (number-put _ _ _ _ _ _ (c .before .before .to-bits .ensures) (sym (spelt-done 16 (l .left) (l .out) _ (l .k) (c .loop-test .left)) ∙ l .inv .2), refl)
 
 pub put-spec : {M : Type 1} → statement M
 put-spec =
