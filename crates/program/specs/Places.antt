@@ -81,3 +81,9 @@ pub record Going (k : Kind) (of : List ℕ → Option Call) (p : Place) (s : Pie
   pub state : State
   pub keeps : Keeps k (p .held) s state
   pub goes-on : (chunks : List (List ℕ)) (more : List ℕ) → Left k of (p .next) state (p .start) (carried p text) chunks more → Run k of broken true [] (seen ++ chunks) (printed ++ more)
+
+-- The pieces are those of a program that has come to some place of such a run: after chunks that were seen, and bytes that were printed.
+pub record Ran (k : Kind) (of : List ℕ → Option Call) (s : Pieces) : Type 0 where
+  pub place : Place
+  pub text : List ℕ
+  pub going : Going k of place s text

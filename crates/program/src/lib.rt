@@ -10,7 +10,8 @@ ghost use Rattle.model.specs.Calls.{broken};
 ghost use Rattle.trees.specs.Pieces.{pieces};
 ghost use Rattle.tree.specs.Depths.{kind};
 ghost use Rattle.replies.specs.Programs.{Keeps, longest};
-ghost use Rattle.program.specs.Places.{first, goesOn};
+ghost use Rattle.commands.specs.Commands.{says};
+ghost use Rattle.program.specs.Places.{Ran, first, goesOn};
 ghost use Rattle.program.specs.declared.Next.the-variants.{Read};
 use work::work;
 
@@ -111,6 +112,7 @@ pub fn run(
     out: &mut [u8],
 )
     requires { ⌜ (133 < length (now text)) × (longest (kind deep .axes) ≤ length (now out)) × Keeps (kind deep) false (pieces (now head) (now nodes) (now links) (now points)) broken ⌝ }
+    ensures { λ _. ⌜ Ran (kind deep) (says deep) (pieces (now (head .exit)) (now (nodes .exit)) (now (links .exit)) (now (points .exit))) ⌝ }
 {
     let mut place = begin();
     let mut going = true;
