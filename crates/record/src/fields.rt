@@ -8,6 +8,7 @@ ghost use Rattle.record.specs.Text.{split};
 ghost use Rattle.record.specs.Numbers.{numberOf};
 ghost use Rattle.record.specs.Commands.{wordOf, floatsAfter, wholeAfter, numbersOf};
 ghost use Rattle.record.specs.Read.{floatIn, rest, Reads};
+ghost use Rattle.record.specs.declared.numbers.Whole.the-variants.{Not};
 use crate::Word;
 use crate::numbers::Number;
 use crate::numbers::Whole;
@@ -134,9 +135,11 @@ fn last_whole(s: &[u8], due: bool) -> Whole
 }
 
 // Reads the numbers of a word: the floats to the front of `numbers`, and the whole number or 0. What stands after the word is s: nothing, or a comma and the
-// other fields. Where they are not understood some floats may have been written, so `numbers` is an array that nobody else sees.
+// other fields. Where they are not understood some floats may have been written, so `numbers` is an array that nobody else sees. Where it is too short for the
+// floats, nothing is read.
 pub fn numbers_of(s: &[u8], word: Word, axes: u8, numbers: &mut [f64]) -> Whole
     ensures { λ r. ⌜ (floatsAfter axes word ≤ length (now (numbers .entry)) → Reads (numbersOf (floatsAfter axes word) (wholeAfter word) (rest (now (s .entry)))) r (now (numbers .entry)) (now (numbers .exit))) ⌝ }
+    ensures short { λ r. ⌜ (length (now (numbers .entry)) < floatsAfter axes word → (r ≡ Not) × (now (numbers .exit) ≡ now (numbers .entry))) ⌝ }
 {
     let count = floats_after(word, axes);
     let due = whole_after(word);
