@@ -4,9 +4,9 @@ ghost use mathlib.Core.Bool.{cond};
 ghost use Rattle.record.specs.Commands.{wordOf};
 ghost use Rattle.commands.specs.Commands.{callIn, made, says};
 use record::Word;
-use record::fields::find;
-use record::fields::numbers_of;
-use record::fields::word_of;
+use fields::find;
+use fields::numbers_of;
+use fields::word_of;
 use record::numbers::Whole;
 use tree::region::axes;
 

@@ -13,8 +13,8 @@ ghost use Rattle.program.specs.Steps.{Steps};
 use commands::Command;
 use commands::parse;
 use execution::answer;
-use record::fields::find;
-use record::lines::line_of;
+use fields::find;
+use lines::line_of;
 use replies::has_room;
 use tree::region::axes;
 

@@ -12,7 +12,7 @@ ghost use Rattle.program.specs.Places.{Digests, Sits, Works, atEnd, byte
 use crate::Next;
 use crate::Place;
 use crate::stream::feed;
-use record::lines::keep;
+use lines::keep;
 use replies::finish;
 
 // Answers the lines of the text from a place up to `end`. Where no line feed is left, what is left is moved to the front; where no room is left, it stays, and comes next.

@@ -1,6 +1,4 @@
 // The records of the command programs: what a record says, and where it ends. For either program.
-pub mod fields;
-pub mod lines;
 pub mod numbers;
 
 // The words with which a record begins, or that it begins with none of them.

@@ -9,8 +9,8 @@ use geometry::plane::Rectangle;
 use geometry::space::Cube;
 use geometry::space::Point3D;
 use record::Word;
-use record::fields::find;
-use record::fields::numbers_of;
+use fields::find;
+use fields::numbers_of;
 use record::numbers::Whole;
 
 // Two points of three axes.

@@ -13,7 +13,7 @@ ghost use Rattle.replies.specs.Lines.{crlf, field, lines};
 ghost use Rattle.replies.specs.Printed.{hexAt, pointAt, pointsFrom, PutsTold};
 ghost use Rattle.replies.specs.Programs.{Puts, Wrote, longest};
 use answers::room;
-use record::lines::skipped;
+use lines::skipped;
 use words::get;
 
 // The character of a digit.

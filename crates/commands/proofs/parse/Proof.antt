@@ -19,8 +19,8 @@ use Rattle.commands.proofs.parse.Reads as reads
 use Rattle.commands.proofs.parse.Lts as lts
 use Rattle.commands.proofs.first_word.Reads as first-word-reads
 use Rattle.commands.proofs.pick.Reads as pick-reads
-use Rattle.record.proofs.fields.find.Reads as find-reads
-use Rattle.record.proofs.fields.numbers_of.Reads as numbers-of-reads
+use Rattle.fields.proofs.find.Reads as find-reads
+use Rattle.fields.proofs.numbers_of.Reads as numbers-of-reads
 use Rattle.tree.proofs.region.axes.Reads as axes-reads
 
 find-requires : tie.Need-find-requires
