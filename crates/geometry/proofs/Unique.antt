@@ -2,8 +2,8 @@
 use mathlib.Core.Path.{_≡_, ap}
 use mathlib.Core.List.{List, [], _∷_}
 use lib.Ieee.{Float}
-use Rattle.model.specs.Boxes.{Side}
-use Rattle.geometry.specs.Sides.{side, sides2, sides3}
+use Rattle.model.specs.Boxes.{Side, side}
+use Rattle.geometry.specs.Sides.{sides2, sides3}
 use Rattle.geometry.specs.declared.plane.Rectangle.{Rectangle}
 use Rattle.geometry.specs.declared.space.Cube.{Cube}
 

@@ -1,14 +1,11 @@
 -- The code's boxes and points as the model's lists: the x axis first. Definitions only.
 use mathlib.Core.List.{List, [], _∷_}
 use lib.Ieee.{Float}
-use Rattle.model.specs.Boxes.{Side}
+use Rattle.model.specs.Boxes.{Side, side}
 use Rattle.geometry.specs.declared.plane.Point2D.{Point2D}
 use Rattle.geometry.specs.declared.plane.Rectangle.{Rectangle}
 use Rattle.geometry.specs.declared.space.Point3D.{Point3D}
 use Rattle.geometry.specs.declared.space.Cube.{Cube}
-
-abbrev pub side : Float → Float → Side
-side c e = record { corner = c; extent = e }
 
 abbrev pub place2 : Point2D → List Float
 place2 p = p .x ∷ p .y ∷ []

@@ -15,6 +15,9 @@ pub record Side : Type 0 where
   pub corner : Float
   pub extent : Float
 
+abbrev pub side : Float → Float → Side
+side c e = record { corner = c; extent = e }
+
 -- "The far edge is corner + extent, computed."
 unfoldable pub far : Side → Float
 far s = add binary64 (s .corner) (s .extent)

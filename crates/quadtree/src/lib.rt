@@ -1,7 +1,7 @@
 // The calls of the gateway's host on a quadtree, as C functions: numbers, and pieces, coordinates and payloads as bytes. Each tests first that the pieces hold a
 // sound tree and answers 8 where they do not; creation asks for their lengths only. The reply is what is returned.
 ghost use mathlib.Core.List.{[], _∷_};
-ghost use Rattle.geometry.specs.Sides.{side};
+ghost use Rattle.model.specs.Boxes.{side};
 ghost use Rattle.model.specs.Calls.{quadtree, Create, Insert, Bulk, Delete, Clear, Contains, Len, IsEmpty, Radius, Box, Nearest};
 ghost use Rattle.trees.specs.Pieces.{pieces, Does, Asks, Searches, roomFor, lent};
 use tree_changes::bulk;

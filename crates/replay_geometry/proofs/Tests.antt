@@ -8,8 +8,7 @@ use lib.Ieee.{Float, binary64}
 use borrow.Author.Tests.{eqb-true}
 use Rattle.floats.specs.Next.{nextUp}
 use Rattle.floats.specs.Span.{span}
-use Rattle.model.specs.Boxes.{Side, inside, meets, samePlace, mid, route, part, squared, axisDistance, nodeDistance}
-use Rattle.geometry.specs.Sides.{side}
+use Rattle.model.specs.Boxes.{Side, inside, meets, samePlace, mid, route, part, squared, axisDistance, nodeDistance, side}
 use Rattle.record.specs.Text.{same}
 use Rattle.record.proofs.Parts.{same-no}
 use Rattle.replay_geometry.specs.Shown.{Said, number, yes, child, boxed, unknown}

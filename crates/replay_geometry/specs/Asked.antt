@@ -9,8 +9,7 @@ use lib.ListN.{length, getD, drop}
 use lib.Seq.{sets}
 use Rattle.floats.specs.Next.{nextUp}
 use Rattle.floats.specs.Span.{span}
-use Rattle.model.specs.Boxes.{Side, inside, meets, samePlace, mid, route, part, squared, axisDistance, nodeDistance}
-use Rattle.geometry.specs.Sides.{side}
+use Rattle.model.specs.Boxes.{Side, inside, meets, samePlace, mid, route, part, squared, axisDistance, nodeDistance, side}
 use Rattle.record.specs.Text.{split, same}
 use Rattle.record.specs.Commands.{numbersOf}
 use Rattle.record.specs.Read.{rest}

@@ -3,7 +3,7 @@ ghost use mathlib.Core.Path.{_≡_};
 ghost use Rattle.replay_geometry.specs.Shown.{saidIn};
 ghost use Rattle.replay_geometry.specs.Asked as Asked;
 use crate::answer::Answer;
-use geometry::axis;
+use axis;
 use geometry::plane::Point2D;
 use geometry::plane::Rectangle;
 use geometry::space::Cube;

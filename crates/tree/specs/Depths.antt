@@ -3,9 +3,8 @@ use mathlib.Core.Bool.{Bool, true, false}
 use mathlib.Core.List.{List, [], _∷_}
 use Prim.Native.Nat.{ℕ}
 use lib.Ieee.{Float}
-use Rattle.model.specs.Boxes.{Side}
+use Rattle.model.specs.Boxes.{Side, side}
 use Rattle.model.specs.Calls.{Kind, octree, quadtree}
-use Rattle.geometry.specs.Sides.{side}
 use Rattle.geometry.specs.declared.space.Point3D.{Point3D}
 use Rattle.geometry.specs.declared.space.Cube.{Cube}
 

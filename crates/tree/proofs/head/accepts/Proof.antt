@@ -1,7 +1,6 @@
 use mathlib.Core.Path.{sym, ap, _∙_}
 use mathlib.Core.List.{[], _∷_}
-use Rattle.model.specs.Boxes.{acceptable}
-use Rattle.geometry.specs.Sides.{side}
+use Rattle.model.specs.Boxes.{acceptable, side}
 use Rattle.trees.proofs.Areas.{accept-more, accept-last}
 use Rattle.tree.specs.Depths.{sides}
 use borrow.Author.Needs.{needs}

@@ -1,5 +1,5 @@
 -- `geometry::plane::Point2D::same` meets its contract. Assumes nothing.
-use Rattle.geometry.proofs.Axes.{same-last, same-more}
+use Rattle.axis.proofs.Axes.{same-last, same-more}
 use Rattle.geometry.proofs.plane.Point2D.same.Statement.{statement}
 use Rattle.geometry.proofs.plane.Point2D.same.Tie as tie
 

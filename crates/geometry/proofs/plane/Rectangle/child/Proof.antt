@@ -1,7 +1,7 @@
 -- `geometry::plane::Rectangle::child` meets its contract. Assumes nothing.
 use mathlib.Core.Path.{refl}
 use borrow.Author.Needs.{needs}
-use Rattle.geometry.proofs.Axes.{part-none, part-more}
+use Rattle.axis.proofs.Axes.{part-none, part-more}
 use Rattle.geometry.proofs.plane.Rectangle.child.Statement.{statement}
 use Rattle.geometry.proofs.plane.Rectangle.child.Tie as tie
 

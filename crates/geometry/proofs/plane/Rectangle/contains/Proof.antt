@@ -1,6 +1,6 @@
 -- `geometry::plane::Rectangle::contains` meets its contract. Assumes nothing.
 use borrow.Author.Needs.{needs}
-use Rattle.geometry.proofs.Axes.{inside-last, inside-more}
+use Rattle.axis.proofs.Axes.{inside-last, inside-more}
 use Rattle.geometry.proofs.plane.Rectangle.contains.Statement.{statement}
 use Rattle.geometry.proofs.plane.Rectangle.contains.Tie as tie
 

@@ -1,6 +1,6 @@
 -- `geometry::plane::Rectangle::intersects` meets its contract. Assumes nothing.
 use borrow.Author.Needs.{needs}
-use Rattle.geometry.proofs.Axes.{meets-last, meets-more}
+use Rattle.axis.proofs.Axes.{meets-last, meets-more}
 use Rattle.geometry.proofs.plane.Rectangle.intersects.Statement.{statement}
 use Rattle.geometry.proofs.plane.Rectangle.intersects.Tie as tie
 

@@ -1,6 +1,6 @@
 -- `geometry::space::Cube::child_index` meets its contract. Assumes nothing.
 use borrow.Author.Needs.{needs}
-use Rattle.geometry.proofs.Axes.{route-last, route-more}
+use Rattle.axis.proofs.Axes.{route-last, route-more}
 use Rattle.geometry.proofs.space.Cube.child_index.Statement.{statement}
 use Rattle.geometry.proofs.space.Cube.child_index.Tie as tie
 

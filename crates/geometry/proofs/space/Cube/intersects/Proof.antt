@@ -1,6 +1,6 @@
 -- `geometry::space::Cube::intersects` meets its contract. Assumes nothing.
 use borrow.Author.Needs.{needs}
-use Rattle.geometry.proofs.Axes.{meets-last, meets-more}
+use Rattle.axis.proofs.Axes.{meets-last, meets-more}
 use Rattle.geometry.proofs.space.Cube.intersects.Statement.{statement}
 use Rattle.geometry.proofs.space.Cube.intersects.Tie as tie
 

@@ -1,6 +1,6 @@
 -- `geometry::space::Cube::min_distance_sq` meets its contract. Assumes nothing.
 use borrow.Author.Needs.{needs}
-use Rattle.geometry.proofs.Axes.{node-is}
+use Rattle.axis.proofs.Axes.{node-is}
 use mathlib.Core.List.{[], _∷_}
 use Rattle.model.specs.Boxes.{added}
 use Rattle.geometry.proofs.space.Cube.min_distance_sq.Statement.{statement}

@@ -1,5 +1,5 @@
 -- `geometry::space::Point3D::same` meets its contract. Assumes nothing.
-use Rattle.geometry.proofs.Axes.{same-last, same-more}
+use Rattle.axis.proofs.Axes.{same-last, same-more}
 use Rattle.geometry.proofs.space.Point3D.same.Statement.{statement}
 use Rattle.geometry.proofs.space.Point3D.same.Tie as tie
 
