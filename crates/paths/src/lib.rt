@@ -14,7 +14,7 @@ use groups::merge;
 use pool::count;
 use pool::count_down;
 use pool::count_up;
-use pool::cut;
+use lists::cut;
 use pool::group;
 
 // Notes place p as number n, if it is to be noted: how many are then noted.

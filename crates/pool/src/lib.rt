@@ -6,8 +6,7 @@ ghost use mathlib.Core.Path.{_≡_};
 ghost use Prim.Native.Nat.{_+_, _-_, _*_, _%_, _<_};
 ghost use lib.ListN.{getD, set};
 ghost use Rattle.words.specs.Words.{words};
-ghost use Rattle.pool.specs.Writes.{pool, kid, counted, lowered, ended, appended, relasted, cutOut, popped, pushed, taken, given};
-ghost use Rattle.pool.specs.Meanings.{Appends, Cuts, TakesPlace, GivesPlace, TakesGroup, GivesGroup};
+ghost use Rattle.pool.specs.Writes.{kid, counted, lowered};
 use words::get;
 use words::put;
 
@@ -94,96 +93,4 @@ pub fn count_down(nodes: &mut [u8], i: usize)
         return;
     }
     set_field(nodes, i, 3, v - 1);
-}
-
-// Makes p the last place of node i, which has one point more.
-fn end_with(nodes: &mut [u8], i: usize, p: u32)
-    ensures { λ _. ⌜ words (now (nodes .exit)) ≡ ended (words (now (nodes .entry))) i p ⌝ }
-{
-    set_field(nodes, i, 2, p);
-    count_up(nodes, i);
-}
-
-// Puts place p at the end of the list of node i. The last place is kept, so that no list is walked.
-pub fn append(nodes: &mut [u8], links: &mut [u8], i: usize, p: u32)
-    ensures { λ _. ⌜ pool (now (nodes .exit)) (now (links .exit)) ≡ appended (pool (now (nodes .entry)) (now (links .entry))) i p ⌝ }
-    ensures tree { λ _. ⌜ Appends (pool (now (nodes .entry)) (now (links .entry))) (pool (now (nodes .exit)) (now (links .exit))) i p ⌝ }
-{
-    let b = last(nodes, i);
-    put(links, p as usize, 0);
-    if b == 0 {
-        set_field(nodes, i, 1, p);
-        end_with(nodes, i, p);
-        return;
-    }
-    put(links, b as usize, p);
-    end_with(nodes, i, p);
-}
-
-// Where nothing comes after the place that leaves, b is the last.
-fn relast(nodes: &mut [u8], i: usize, after: u32, b: u32)
-    ensures { λ _. ⌜ words (now (nodes .exit)) ≡ relasted (words (now (nodes .entry))) i after b ⌝ }
-{
-    if after == 0 {
-        set_field(nodes, i, 2, b);
-    }
-}
-
-// Takes place p out of the list of node i, where b stands before it, or 0.
-pub fn cut(nodes: &mut [u8], links: &mut [u8], i: usize, p: u32, b: u32)
-    ensures { λ _. ⌜ pool (now (nodes .exit)) (now (links .exit)) ≡ cutOut (pool (now (nodes .entry)) (now (links .entry))) i p b ⌝ }
-    ensures tree { λ _. ⌜ Cuts (pool (now (nodes .entry)) (now (links .entry))) (pool (now (nodes .exit)) (now (links .exit))) i p b ⌝ }
-{
-    let after = next(links, p);
-    count_down(nodes, i);
-    relast(nodes, i, after, b);
-    if b == 0 {
-        set_field(nodes, i, 1, after);
-        return;
-    }
-    put(links, b as usize, after);
-}
-
-// Takes the first free place: 0 where there is none. Word 0 of the links is then 0, and is its own next.
-pub fn take_place(links: &mut [u8]) -> u32
-    ensures { λ r. ⌜ (r ≡ getD (words (now (links .entry))) 0 0) × (words (now (links .exit)) ≡ popped (words (now (links .entry)))) ⌝ }
-    ensures tree { λ r. ⌜ TakesPlace (words (now (links .entry))) (words (now (links .exit))) r ⌝ }
-{
-    let p = next(links, 0);
-    let q = next(links, p);
-    put(links, 0, q);
-    p
-}
-
-// Gives place p back.
-pub fn give_place(links: &mut [u8], p: u32)
-    ensures { λ _. ⌜ words (now (links .exit)) ≡ pushed (words (now (links .entry))) p ⌝ }
-    ensures tree { λ _. ⌜ GivesPlace (words (now (links .entry))) (words (now (links .exit))) p ⌝ }
-{
-    let q = next(links, 0);
-    put(links, p as usize, q);
-    put(links, 0, p);
-}
-
-// Takes the first free group: 0 where there is none. The header is node 0, so that group 0 is then its own next.
-pub fn take_group(nodes: &mut [u8], ways: u8) -> u32
-    ensures { λ r. ⌜ (r ≡ getD (words (now (nodes .entry))) 0 0) × (words (now (nodes .exit)) ≡ taken ways (words (now (nodes .entry)))) ⌝ }
-    ensures tree { λ r. ⌜ TakesGroup ways (words (now (nodes .entry))) (words (now (nodes .exit))) r ⌝ }
-{
-    let k = get(nodes, 0);
-    let j = child(ways, k, 0);
-    let v = group(nodes, j);
-    put(nodes, 0, v);
-    k
-}
-
-// Gives group k back.
-pub fn give_group(nodes: &mut [u8], ways: u8, k: u32)
-    ensures { λ _. ⌜ words (now (nodes .exit)) ≡ given ways (words (now (nodes .entry))) k ⌝ }
-    ensures tree { λ _. ⌜ GivesGroup ways (words (now (nodes .entry))) (words (now (nodes .exit))) k ⌝ }
-{
-    let h = get(nodes, 0);
-    let j = child(ways, k, 0);
-    set_field(nodes, j, 0, h);
-    put(nodes, 0, k);
 }

@@ -19,7 +19,7 @@ use geometry::space::Cube;
 use geometry::space::Point3D;
 use groups::split;
 use paths::note_turn;
-use pool::append;
+use lists::append;
 use pool::count;
 use pool::count_up;
 use pool::first;

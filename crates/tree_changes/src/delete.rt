@@ -10,7 +10,7 @@ ghost use Rattle.trees.specs.Pieces.{pieces, DoesHeld};
 use geometry::space::Point3D;
 use paths::delete_along;
 use pool::first;
-use pool::give_place;
+use free::give_place;
 use tree::descent::find_in;
 use tree::descent::leaf_of;
 use tree::head::boundary;

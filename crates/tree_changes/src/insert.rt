@@ -18,7 +18,7 @@ use geometry::space::Point3D;
 use groups::has_groups;
 use paths::count_along;
 use pool::count;
-use pool::take_place;
+use free::take_place;
 use tree::descent::leaf_of;
 use tree::descent::need;
 use tree::head::boundary;

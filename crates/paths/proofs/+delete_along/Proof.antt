@@ -11,7 +11,7 @@ use Rattle.paths.proofs.+delete_along.Lts-delete_along as delete-along-
 use Rattle.groups.proofs.merge.Reads as merge-reads
 use Rattle.pool.proofs.count.Reads as count-reads
 use Rattle.pool.proofs.count_down.Reads as count-down-reads
-use Rattle.pool.proofs.cut.Reads as cut-reads
+use Rattle.lists.proofs.cut.Reads as cut-reads
 use Rattle.pool.proofs.group.Reads as group-reads
 use Rattle.paths.proofs.+delete_along.{statement}
 use Rattle.paths.proofs.+delete_along.Tie.{close}

@@ -13,7 +13,7 @@ use Rattle.tree.proofs.insert.insert_within.Kinds as insert-within-kind
 use Rattle.tree.proofs.insert.+insert_within.Lts-insert_within as insert-within-lts
 use Rattle.tree.proofs.region.part.Reads as part-reads
 use Rattle.tree.proofs.region.child_index.Reads as child-index-reads
-use Rattle.pool.proofs.append.Reads as append-reads
+use Rattle.lists.proofs.append.Reads as append-reads
 use Rattle.pool.proofs.count.Reads as count-reads
 use Rattle.tree.proofs.insert.enter.Reads as enter-reads
 use Rattle.tree.proofs.insert.subdivide.Reads as subdivide-reads

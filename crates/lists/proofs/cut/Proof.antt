@@ -1,8 +1,8 @@
 -- `pool::cut` meets its contract. Assumes nothing.
 use Rattle.pool.proofs.Steps.{cuts-first, cuts-later}
 use borrow.Author.Needs.{needs}
-use Rattle.pool.proofs.cut.Statement.{statement}
-use Rattle.pool.proofs.cut.Tie as tie
+use Rattle.lists.proofs.cut.Statement.{statement}
+use Rattle.lists.proofs.cut.Tie as tie
 
 next-requires : tie.Need-next-requires
 next-requires c κs = search needs

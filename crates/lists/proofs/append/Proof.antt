@@ -1,8 +1,8 @@
 -- `pool::append` meets its contract. Assumes nothing.
 use Rattle.pool.proofs.Steps.{appends-first, appends-later}
 use borrow.Author.Needs.{needs}
-use Rattle.pool.proofs.append.Statement.{statement}
-use Rattle.pool.proofs.append.Tie as tie
+use Rattle.lists.proofs.append.Statement.{statement}
+use Rattle.lists.proofs.append.Tie as tie
 
 last-requires : tie.Need-last-requires
 last-requires c κs = search needs

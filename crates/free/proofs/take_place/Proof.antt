@@ -1,8 +1,8 @@
 -- `pool::take_place` meets its contract. Assumes nothing.
 use Rattle.pool.proofs.Steps.{takes-place}
 use borrow.Author.Needs.{needs}
-use Rattle.pool.proofs.take_place.Statement.{statement}
-use Rattle.pool.proofs.take_place.Tie as tie
+use Rattle.free.proofs.take_place.Statement.{statement}
+use Rattle.free.proofs.take_place.Tie as tie
 
 next-requires : tie.Need-next-requires
 next-requires c κs = search needs

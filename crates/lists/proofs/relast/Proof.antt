@@ -1,8 +1,8 @@
 -- `pool::relast` meets its contract. Assumes nothing.
 use Rattle.pool.proofs.Steps.{relast-yes, relast-no}
 use borrow.Author.Needs.{needs}
-use Rattle.pool.proofs.relast.Statement.{statement}
-use Rattle.pool.proofs.relast.Tie as tie
+use Rattle.lists.proofs.relast.Statement.{statement}
+use Rattle.lists.proofs.relast.Tie as tie
 
 set-field-requires : tie.Need-set-field-requires
 set-field-requires c κs = search needs

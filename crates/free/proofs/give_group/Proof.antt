@@ -1,8 +1,8 @@
 -- `pool::give_group` meets its contract. Assumes nothing.
 use Rattle.pool.proofs.Steps.{gives-group}
 use borrow.Author.Needs.{needs}
-use Rattle.pool.proofs.give_group.Statement.{statement}
-use Rattle.pool.proofs.give_group.Tie as tie
+use Rattle.free.proofs.give_group.Statement.{statement}
+use Rattle.free.proofs.give_group.Tie as tie
 
 get-requires : tie.Need-get-requires
 get-requires c κs = search needs

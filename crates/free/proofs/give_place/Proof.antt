@@ -1,8 +1,8 @@
 -- `pool::give_place` meets its contract. Assumes nothing.
 use Rattle.pool.proofs.Steps.{gives-place}
 use borrow.Author.Needs.{needs}
-use Rattle.pool.proofs.give_place.Statement.{statement}
-use Rattle.pool.proofs.give_place.Tie as tie
+use Rattle.free.proofs.give_place.Statement.{statement}
+use Rattle.free.proofs.give_place.Tie as tie
 
 next-requires : tie.Need-next-requires
 next-requires c κs = search needs

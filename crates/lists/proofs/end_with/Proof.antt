@@ -1,8 +1,8 @@
 -- `pool::end_with` meets its contract. Assumes nothing.
 use Rattle.pool.proofs.Steps.{ends}
 use borrow.Author.Needs.{needs}
-use Rattle.pool.proofs.end_with.Statement.{statement}
-use Rattle.pool.proofs.end_with.Tie as tie
+use Rattle.lists.proofs.end_with.Statement.{statement}
+use Rattle.lists.proofs.end_with.Tie as tie
 
 set-field-requires : tie.Need-set-field-requires
 set-field-requires c κs = search needs

@@ -1,8 +1,8 @@
 -- `pool::take_group` meets its contract. Assumes nothing.
 use Rattle.pool.proofs.Steps.{takes-group}
 use borrow.Author.Needs.{needs}
-use Rattle.pool.proofs.take_group.Statement.{statement}
-use Rattle.pool.proofs.take_group.Tie as tie
+use Rattle.free.proofs.take_group.Statement.{statement}
+use Rattle.free.proofs.take_group.Tie as tie
 
 get-requires : tie.Need-get-requires
 get-requires c κs = search needs
