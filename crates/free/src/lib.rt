@@ -1,6 +1,5 @@
 // Free places and free groups of nodes, each a list from which the first is taken and to whose front one is given back.
 ghost use mathlib.Core.Path.{_≡_};
-ghost use Prim.Native.Nat.{_-_};
 ghost use lib.ListN.{getD};
 ghost use Rattle.words.specs.Words.{words};
 ghost use Rattle.pool.specs.Writes.{popped, pushed, taken, given};

@@ -3,7 +3,7 @@
 // Every function is total: a place or a node that is not there reads as 0 and is not written. 0 is no place and no group, and who appends it or gives it
 // back loses what is free; what is then written is defined too (`Writes`).
 ghost use mathlib.Core.Path.{_≡_};
-ghost use Prim.Native.Nat.{_+_, _-_, _*_, _%_, _<_};
+ghost use Prim.Native.Nat.{_+_, _*_, _<_};
 ghost use lib.ListN.{getD, set};
 ghost use Rattle.words.specs.Words.{words};
 ghost use Rattle.pool.specs.Writes.{kid, counted, lowered};

@@ -1,3 +1,2 @@
 -- What the code that both trees share means. Definitions only.
 pub mod Depths
-pub mod Questions

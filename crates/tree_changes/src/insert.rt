@@ -19,11 +19,11 @@ use groups::has_groups;
 use paths::count_along;
 use pool::count;
 use free::take_place;
-use tree::descent::leaf_of;
-use tree::descent::need;
+use tree_descent::descent::leaf_of;
+use tree_descent::descent::need;
 use tree::head::boundary;
 use tree::head::capacity;
-use tree::insert::insert_within;
+use tree_descent::insert::insert_within;
 use tree::region::contains;
 use tree::region::ways;
 

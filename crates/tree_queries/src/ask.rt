@@ -4,8 +4,8 @@ ghost use Rattle.tree.specs.Depths.{coords, kind};
 ghost use Rattle.trees.specs.Pieces.{AsksHeld, pieces};
 use geometry::space::Point3D;
 use pool::first;
-use tree::descent::find_in;
-use tree::descent::leaf_of;
+use tree_descent::descent::find_in;
+use tree_descent::descent::leaf_of;
 use tree::head::boundary;
 use tree::region;
 

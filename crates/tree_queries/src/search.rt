@@ -14,10 +14,10 @@ use answers::answer;
 use geometry::space::Cube;
 use geometry::space::Point3D;
 use tree::head::boundary;
-use tree::nearest::knn_search_helper;
+use tree_search::nearest::knn_search_helper;
 use tree::region::axes;
-use tree::search::Question;
-use tree::search::collect;
+use tree_search::search::Question;
+use tree_search::search::collect;
 
 // Hands over the points of the first n places found, if all of them fit.
 fn hand_over(
