@@ -14,9 +14,8 @@ use replies::put_figure;
 use replies::put_reply;
 use replies::put_told;
 use tree::region::axes;
-use tree_changes::create;
-use tree_changes::delete;
-use tree_changes::insert;
+use tree_create::create;
+use tree_insert::insert;
 use tree_queries::ask;
 use tree_queries::search;
 
@@ -99,7 +98,7 @@ fn delete(
     if !held {
         return put_reply(out, at, 10);
     }
-    let reply = delete::delete(deep, head, nodes, links, points, x, y, z, n);
+    let reply = tree_delete::delete(deep, head, nodes, links, points, x, y, z, n);
     put_reply(out, at, reply)
 }
 

@@ -4,10 +4,9 @@ ghost use mathlib.Core.List.{[], _∷_};
 ghost use Rattle.model.specs.Boxes.{side};
 ghost use Rattle.model.specs.Calls.{octree, Create, Insert, Bulk, Delete, Clear, Contains, Len, IsEmpty, Radius, Box, Nearest};
 ghost use Rattle.trees.specs.Pieces.{pieces, Does, Asks, Searches, roomFor, lent};
-use tree_changes::bulk;
-use tree_changes::create;
-use tree_changes::delete;
-use tree_changes::insert;
+use tree_insert::bulk;
+use tree_create::create;
+use tree_insert::insert;
 use tree_queries::ask;
 use tree_queries::search;
 use tree_sound::sound;
@@ -104,7 +103,7 @@ pub extern "C" fn octree_delete(
     if !sound(true, head, nodes, links, points) {
         return 8;
     }
-    delete::delete(true, head, nodes, links, points, x, y, z, mark)
+    tree_delete::delete(true, head, nodes, links, points, x, y, z, mark)
 }
 
 // Leaves one empty root, with boundary and capacity as they were.

@@ -3,8 +3,7 @@ ghost use mathlib.Core.List.{[], _∷_};
 ghost use Rattle.model.specs.Boxes.{side};
 ghost use Rattle.model.specs.Calls.{octree, Insert, Delete, Contains, Radius, Box, Nearest};
 ghost use Rattle.trees.specs.Pieces.{pieces, Sane, Decides, DoesHeld, AsksHeld, SearchesHeld, roomFor};
-use tree_changes::delete;
-use tree_changes::insert;
+use tree_insert::insert;
 use tree_queries::ask;
 use tree_queries::search;
 use tree_sound::sound;
@@ -45,7 +44,7 @@ pub extern "C" fn probe_octree_delete(
 ) -> u32
     ensures { λ r. ⌜ DoesHeld octree (Delete (record { at = x ∷ y ∷ z ∷ []; payload = mark })) (pieces (now (head .entry)) (now (nodes .entry)) (now (links .entry)) (now (points .entry))) (pieces (now (head .entry)) (now (nodes .exit)) (now (links .exit)) (now (points .entry))) r 0 ⌝ }
 {
-    delete::delete(true, head, nodes, links, points, x, y, z, mark)
+    tree_delete::delete(true, head, nodes, links, points, x, y, z, mark)
 }
 
 #[no_mangle]

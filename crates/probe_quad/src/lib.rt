@@ -3,8 +3,7 @@ ghost use mathlib.Core.List.{[], _∷_};
 ghost use Rattle.model.specs.Boxes.{side};
 ghost use Rattle.model.specs.Calls.{quadtree, Insert, Delete, Contains, Radius, Box, Nearest};
 ghost use Rattle.trees.specs.Pieces.{pieces, Sane, Decides, DoesHeld, AsksHeld, SearchesHeld, roomFor};
-use tree_changes::delete;
-use tree_changes::insert;
+use tree_insert::insert;
 use tree_queries::ask;
 use tree_queries::search;
 use tree_sound::sound;
@@ -48,7 +47,7 @@ pub extern "C" fn probe_quadtree_delete(
 ) -> u32
     ensures { λ r. ⌜ DoesHeld quadtree (Delete (record { at = x ∷ y ∷ []; payload = mark })) (pieces (now (head .entry)) (now (nodes .entry)) (now (links .entry)) (now (points .entry))) (pieces (now (head .entry)) (now (nodes .exit)) (now (links .exit)) (now (points .entry))) r 0 ⌝ }
 {
-    delete::delete(false, head, nodes, links, points, x, y, 0.0, mark)
+    tree_delete::delete(false, head, nodes, links, points, x, y, 0.0, mark)
 }
 
 #[no_mangle]

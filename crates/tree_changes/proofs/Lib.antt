@@ -1,2 +1,0 @@
--- What is proved of the changes.
-pub mod Puts

@@ -1,0 +1,2 @@
+-- What is proved of the words that are written.
+pub mod Puts
