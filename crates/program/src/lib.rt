@@ -1,7 +1,4 @@
 // A command program over either tree: reads records from standard input and prints their answers.
-mod stream;
-mod work;
-
 ghost use mathlib.Core.Bool.{false};
 ghost use mathlib.Core.Path.{_≡_};
 ghost use Prim.Native.Nat.{_≤_, _<_};
@@ -11,27 +8,11 @@ ghost use Rattle.trees.specs.Pieces.{pieces};
 ghost use Rattle.tree.specs.Depths.{kind};
 ghost use Rattle.replies.specs.Programs.{Keeps, longest};
 ghost use Rattle.commands.specs.Commands.{says};
-ghost use Rattle.program.specs.Places.{Ran, first, goesOn};
-ghost use Rattle.program.specs.declared.Next.the-variants.{Read};
-use work::work;
-
-// What comes next: to read behind what is carried, to go on with what is there, or nothing.
-pub enum Next {
-    Read,
-    Work,
-    Done,
-}
-
-// Where a program is: where the bytes of the text that are not answered begin and end, whether the very start is still ahead, whether a tree is held, how many bytes
-// of answers are ready to be written, and what comes next.
-pub struct Place {
-    pub from: usize,
-    pub end: usize,
-    pub start: bool,
-    pub held: bool,
-    pub ready: usize,
-    pub next: Next,
-}
+ghost use Rattle.turns.specs.Places.{Ran, first, goesOn};
+ghost use Rattle.turns.specs.declared.Next.the-variants.{Read};
+use turns::Next;
+use turns::Place;
+use turns::work;
 
 // A program has no exit status of its own, so what fails is told on standard error.
 fn tell_unread(deep: bool) {

@@ -1,4 +1,4 @@
-use Rattle.program.specs.Places.{goesOn}
+use Rattle.turns.specs.Places.{goesOn}
 use borrow.Author.Needs.{needs}
 use Rattle.program.proofs.goes_on.Statement.{statement}
 use Rattle.program.proofs.goes_on.Tie as tie

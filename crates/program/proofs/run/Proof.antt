@@ -4,8 +4,8 @@ use lib.ListN.{length}
 use Rattle.trees.specs.Pieces.{pieces}
 use Rattle.tree.specs.Depths.{kind}
 use Rattle.commands.specs.Commands.{says}
-use Rattle.program.specs.Places.{Going, Sits}
-use Rattle.program.proofs.Working.{begins, going-on, length-rest, sits-again}
+use Rattle.turns.specs.Places.{Going, Sits}
+use Rattle.turns.proofs.Working.{begins, going-on, length-rest, sits-again}
 use borrow.Rule.Slice.PartMut.{take-put}
 use Prim.Native.Nat.{_-_}
 use borrow.Author.Needs.{needs}

@@ -1,3 +1,0 @@
--- What is proved of a command program.
-pub mod Feeding
-pub mod Working
