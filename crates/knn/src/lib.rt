@@ -1,7 +1,5 @@
 // The candidate table of k nearest: knn.rs, with a table in place of the heap. Its distances and its items lie in two
 // lent arrays, so that nothing is copied, and a count says how many entries it holds.
-pub mod table;
-
 ghost use mathlib.Core.Path.{_≡_};
 ghost use Prim.Native.Nat.{_<_, min};
 ghost use lib.ListN.{length, take};

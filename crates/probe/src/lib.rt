@@ -14,7 +14,7 @@ use geometry::plane::Point2D;
 use geometry::plane::Rectangle;
 use geometry::space::Cube;
 use geometry::space::Point3D;
-use knn::table::Table;
+use knn_table::Table;
 
 #[no_mangle]
 pub extern "C" fn probe_to_bits(x: f64) -> u64
@@ -190,7 +190,7 @@ pub extern "C" fn probe_offer(
 pub extern "C" fn probe_offer_to(table: &mut Table, distance: f64, place: u32)
     ensures { λ _. ⌜ Offered (now (table .entry) .count) (now (table .entry) .k) distance place (now (table .entry) .dist) (now (table .entry) .item) (now (table .exit) .dist) (now (table .exit) .item) (now (table .exit) .count) (now (table .exit) .k) ⌝ }
 {
-    knn::table::offer_to(table, distance, place);
+    knn_table::offer_to(table, distance, place);
 }
 
 #[no_mangle]

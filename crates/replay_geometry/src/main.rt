@@ -2,10 +2,6 @@
 // A line that is not understood is answered with a question mark.
 ghost use Prim.Native.Nat.{_≤_};
 ghost use lib.ListN.{length};
-
-mod answer;
-mod question;
-
 use libc::STDIN_FILENO;
 use libc::STDOUT_FILENO;
 
@@ -18,7 +14,7 @@ struct Line {
 
 fn reply(line: &[u8]) {
     let mut out = [0u8; 128];
-    let n = answer::show(question::ask(line), &mut out);
+    let n = geometry_answers::show(geometry_questions::ask(line), &mut out);
     io::write_all(STDOUT_FILENO, &out[0..n]);
 }
 

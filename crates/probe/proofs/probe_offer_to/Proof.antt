@@ -1,4 +1,4 @@
--- `probe::probe_offer_to` meets its contract: a walk of its code by hand. The table is passed on to `knn::table::offer_to` for good, which says what it is afterwards.
+-- `probe::probe_offer_to` meets its contract: a walk of its code by hand. The table is passed on to `knn_table::offer_to` for good, which says what it is afterwards.
 -- Assumes nothing.
 use mathlib.Core.Path.{_≡_, refl, sym, ap, subst}
 use mathlib.Core.Bool.{true}
@@ -37,12 +37,12 @@ use denote.Triple.Clauses.{Lasts, lasts}
 use denote.Triple.Walked.{says, Stays, gave-ref, stay-none, walkOf, AllGo, goes-none, goes-gave-ref, Walks, ends-at, walked, walk-meets}
 use denote.Exit.{yes}
 use Rattle.knn.specs.Candidates.{Offered}
-use Rattle.knn.specs.declared.table.Table.{Table}
-use Rattle.knn.proofs.table.Table as T
-use Rattle.knn.proofs.table.offer_to as callee
-use Rattle.knn.proofs.table.offer_to.Symbol as callee-def
-use Rattle.knn.proofs.table.offer_to.Symbol.{name as #offer-to}
-use Rattle.knn.proofs.table.offer_to.Met as callee-thm
+use Rattle.knn_table.specs.declared.Table.{Table}
+use Rattle.knn_table.proofs.Table as T
+use Rattle.knn_table.proofs.offer_to as callee
+use Rattle.knn_table.proofs.offer_to.Symbol as callee-def
+use Rattle.knn_table.proofs.offer_to.Symbol.{name as #offer-to}
+use Rattle.knn_table.proofs.offer_to.Met as callee-thm
 use Rattle.probe.proofs.probe_offer_to.Key.{name as #probe-offer-to}
 use Rattle.probe.proofs.probe_offer_to as f
 use Rattle.probe.proofs.probe_offer_to.Statement as stated
@@ -126,4 +126,4 @@ probe-offer-to-spec 𝓤 H 𝓜 𝓖 𝓡 =
     entered 𝓤 H (tripleOf 𝓤 H (𝓖 .A) f.signature (f.spec 𝓤 H (𝓖 .A) (𝓜 .mem) (𝓡 .run)))
     (tables 𝓤 H 𝓜 𝓡 code.env .C) (tables 𝓤 H 𝓜 𝓡 code.env .Λ) #probe-offer-to code.function (code.unfolded 𝓤 H 𝓜 𝓡)
     (probe-meets 𝓤 H (𝓖 .A) (givenOf 𝓤 H 𝓜 𝓖) (𝓜 .mem) (𝓡 .run) (tablesOf 𝓤 H 𝓜 (tables 𝓤 H 𝓜 𝓡 code.env))
-    (cited 𝓤 H (Callee 𝓤 H (𝓖 .A) (𝓜 .mem) (𝓡 .run)) 𝓜 𝓡 code.env #offer-to callee-def.routine code.calls-knn·table·offer-to (callee-thm.met 𝓤 H 𝓜 𝓖 𝓡)))
+    (cited 𝓤 H (Callee 𝓤 H (𝓖 .A) (𝓜 .mem) (𝓡 .run)) 𝓜 𝓡 code.env #offer-to callee-def.routine code.calls-knn-table·offer-to (callee-thm.met 𝓤 H 𝓜 𝓖 𝓡)))

@@ -1,5 +1,5 @@
 -- `replay_geometry::reply` meets its contract. Assumes nothing.
-use Rattle.replay_geometry.proofs.Texts.{line-fits}
+use Rattle.geometry_answers.proofs.Texts.{line-fits}
 use borrow.Author.Needs.{needs}
 use Rattle.replay_geometry.proofs.reply.Statement.{statement}
 use Rattle.replay_geometry.proofs.reply.Tie as tie

@@ -1,0 +1,101 @@
+-- Laws of a line: its word, its numbers, and what is answered. Assumes nothing.
+use Prim.Native.Nat.{ℕ, _-_, _/_, _%_, _≤_, _<_}
+use mathlib.Core.Path.{_≡_, refl, sym, ap, ap₂, _∙_, subst}
+use mathlib.Core.Bool.{Bool, true, false}
+use mathlib.Core.List.{List, []}
+use mathlib.Core.Option.{Option, none, some}
+use native.Mathlib.Nat.{sub-zero}
+use native.Mathlib.Omega.{arith}
+use lib.Dec.{eqb, ltb}
+use lib.Ieee.{Float}
+use lib.ListN.{length, getD, take, drop, length-drop}
+use lib.Seq.{sets, length-take-le}
+use borrow.Author.Tests.{ne-eqb}
+use Rattle.record.specs.Text.{split}
+use Rattle.record.specs.Commands.{Numbers, numbersOf}
+use Rattle.record.specs.Read.{Reads, rest}
+use Rattle.record.specs.declared.numbers.Whole.{Whole}
+use Rattle.record.specs.declared.numbers.Whole.the-variants as whole
+use Rattle.record.proofs.Parts.{rest-is, split-rest}
+use Rattle.geometry_answers.specs.Shown.{Said, unknown}
+use Rattle.geometry_questions.specs.Asked.{places, one, two, pair2, three, pair3, parts, answer, told, asked}
+
+-- what is answered to the numbers, if there are any
+by-numbers : (child : Bool) (n : ℕ) (w : List ℕ) → Option Numbers → Said
+by-numbers child n w none = unknown
+by-numbers child n w (some m) = answer child n w (sets places 0 (m .floats)) (m .whole)
+
+by-cases : (child : Bool) (n : ℕ) (w : List ℕ) (o : Option Numbers) → by-numbers child n w o ≡ elim o as (λ z. Said) [ none ↦ unknown | some m ↦ answer child n w (sets places 0 (m .floats)) (m .whole) ]
+unfolding by-numbers
+by-cases child n w none = refl
+by-cases child n w (some m) = refl
+
+told-by : (child : Bool) (w s : List ℕ) → child ≡ ltb 0 (length s % 17) → by-numbers child (length s / 17) w (numbersOf (length s / 17) child (rest s)) ≡ told w s
+unfolding told
+told-by child w s e =
+    subst (λ (t : Bool). by-numbers t (length s / 17) w (numbersOf (length s / 17) t (rest s)) ≡ told w s) (sym e)
+    (by-cases (ltb 0 (length s % 17)) (length s / 17) w (numbersOf (length s / 17) (ltb 0 (length s % 17)) (rest s)))
+
+read-value : (child : Bool) (n : ℕ) (w : List ℕ) (o : Option Numbers) (k : ℕ) (v : List Float) → Reads o (whole.Value k) places v → answer child n w v k ≡ by-numbers child n w o
+unfolding Reads by-numbers
+read-value child n w none k v g = absurd (let z : _≡_ {A = ℕ} 0 1 = cc in omega arith)
+read-value child n w (some m) k v g = let p : k ≡ m .whole = (let q = g .0 in cc) in ap₂ (λ (l : List Float) (j : ℕ). answer child n w l j) (g .1) p
+
+read-not : (child : Bool) (n : ℕ) (w : List ℕ) (o : Option Numbers) (v : List Float) → Reads o whole.Not places v → unknown ≡ by-numbers child n w o
+unfolding Reads by-numbers
+read-not child n w none v g = refl
+read-not child n w (some m) v g = absurd (let q = g .0 in let z : _≡_ {A = ℕ} 0 1 = cc in omega arith)
+
+-- no question has so many numbers
+none-asks : (child : Bool) (n : ℕ) (w : List ℕ) (v : List Float) (i : ℕ) → ((k : ℕ) → 1 ≤ k → k ≤ 12 → eqb n k ≡ false) → unknown ≡ answer child n w v i
+unfolding answer one two pair2 three pair3 parts
+none-asks true n w v i h = simp (h 4 (omega arith) (omega arith), h 6 (omega arith) (omega arith))
+none-asks false n w v i h = simp (h 1 (omega arith) (omega arith), h 2 (omega arith) (omega arith), h 3 (omega arith) (omega arith), h 4 (omega arith) (omega arith), h 6 (omega arith) (omega arith), h 8 (omega arith) (omega arith), h 9 (omega arith) (omega arith), h 12 (omega arith) (omega arith))
+
+-- the line as it is cut at its first comma
+module _ (s : List ℕ) (e : ℕ) (within : e ≤ length s) (first : (k : ℕ) → k < e → getD s k 0 ≡ 44 → ⊥) (found : e < length s → getD s e 0 ≡ 44) where
+  cut : told (take e s) (drop e s) ≡ asked s
+  unfolding asked
+  cut =
+      let w : getD (split 44 s) 0 [] ≡ take e s = ap (λ (l : List (List ℕ)). getD l 0 []) (split-rest s e within first found) in
+      let n : length (take e s) ≡ e = length-take-le e s within in
+      sym (ap (λ (u : List ℕ). told u (drop (length u) s)) w ∙ ap (λ (k : ℕ). told (take e s) (drop k s)) n)
+
+  behind : length (drop e s) ≡ length s - e
+  behind = length-drop e s
+
+  -- what is answered to the numbers that stand behind the comma
+  heard : (child : Bool) → child ≡ ltb 0 ((length s - e) % 17) → by-numbers child ((length s - e) / 17) (take (e - 0) s) (numbersOf ((length s - e) / 17) child (rest (drop e s))) ≡ asked s
+  heard child h =
+      ap (λ (j : ℕ). by-numbers child ((length s - e) / 17) (take j s) (numbersOf ((length s - e) / 17) child (rest (drop e s)))) (sub-zero e)
+      ∙ ap (λ (m : ℕ). by-numbers child (m / 17) (take e s) (numbersOf (m / 17) child (rest (drop e s)))) (sym behind)
+      ∙ told-by child (take e s) (drop e s) (h ∙ ap (λ (m : ℕ). ltb 0 (m % 17)) (sym behind)) ∙ cut
+
+  have : (child : Bool) (count : ℕ) (r : Whole) (v : List Float) → Reads (numbersOf count child (rest (take (length s - e) (drop e s)))) r places v → count ≡ (length s - e) / 17 → Reads (numbersOf ((length s - e) / 17) child (rest (drop e s))) r places v
+  have child count r v g c = subst (λ (o : Option Numbers). Reads o r places v) (ap₂ (λ (m : ℕ) (t : List ℕ). numbersOf m child (rest t)) c (rest-is s e)) g
+
+  pub ask-value : (child : Bool) (count : ℕ) (r : Whole) (v : List Float) (k : ℕ) → child ≡ ltb 0 ((length s - e) % 17) → Reads (numbersOf count child (rest (take (length s - e) (drop e s)))) r places v → count ≡ (length s - e) / 17 → r ≡ whole.Value k → answer child ((length s - e) / 17) (take (e - 0) s) v k ≡ asked s
+  ask-value child count r v k h g c q =
+      read-value child ((length s - e) / 17) (take (e - 0) s) (numbersOf ((length s - e) / 17) child (rest (drop e s))) k v
+      (subst (λ (t : Whole). Reads (numbersOf ((length s - e) / 17) child (rest (drop e s))) t places v) q (have child count r v g c))
+      ∙ heard child h
+
+  pub ask-not : (child : Bool) (count : ℕ) (r : Whole) (v : List Float) → child ≡ ltb 0 ((length s - e) % 17) → Reads (numbersOf count child (rest (take (length s - e) (drop e s)))) r places v → count ≡ (length s - e) / 17 → r ≡ whole.Not → unknown ≡ asked s
+  ask-not child count r v h g c q =
+      read-not child ((length s - e) / 17) (take (e - 0) s) (numbersOf ((length s - e) / 17) child (rest (drop e s))) v
+      (subst (λ (t : Whole). Reads (numbersOf ((length s - e) / 17) child (rest (drop e s))) t places v) q (have child count r v g c))
+      ∙ heard child h
+
+  pub ask-none : ((k : ℕ) → 1 ≤ k → k ≤ 12 → (length s - e) / 17 ≡ k → ⊥) → unknown ≡ asked s
+  unfolding by-numbers
+  ask-none h = go (numbersOf n t (rest (drop e s))) ∙ heard t refl
+    where
+      n : ℕ
+      n = (length s - e) / 17
+
+      t : Bool
+      t = ltb 0 ((length s - e) % 17)
+
+      go : (o : Option Numbers) → unknown ≡ by-numbers t n (take (e - 0) s) o
+      go none = refl
+      go (some m) = none-asks t n (take (e - 0) s) (sets places 0 (m .floats)) (m .whole) (λ k a b. ne-eqb n k (h k a b))

@@ -1,0 +1,77 @@
+-- `replay_geometry::question::pair3` meets its contract. Assumes nothing.
+use Rattle.geometry_answers.specs.Shown.{saidIn}
+use Rattle.geometry_questions.proofs.Tests.{is-squared3, is-same3, after-pair3}
+use borrow.Author.Needs.{needs}
+use Rattle.geometry_questions.proofs.pair3.Statement.{statement}
+use Rattle.geometry_questions.proofs.pair3.Tie as tie
+
+array-read-t11 : tie.Need-array-read-t11
+array-read-t11 c = search needs
+
+array-read-t14 : tie.Need-array-read-t14
+array-read-t14 c = search needs
+
+array-read-t17 : tie.Need-array-read-t17
+array-read-t17 c = search needs
+
+array-read-t11-2 : tie.Need-array-read-t11-2
+array-read-t11-2 c = search needs
+
+array-read-t17-2 : tie.Need-array-read-t17-2
+array-read-t17-2 c = search needs
+
+array-read-t14-2 : tie.Need-array-read-t14-2
+array-read-t14-2 c = search needs
+
+slice-aggregate-same : tie.Need-slice-aggregate-same
+slice-aggregate-same c = search needs
+
+same-requires : tie.Need-same-requires
+same-requires c κs = search needs
+
+distance-sq-requires : tie.Need-distance-sq-requires
+distance-sq-requires c κs = search needs
+
+returns : tie.Need-returns
+unfolding saidIn
+returns c = is-squared3 _ _ _ _ _ (c .distance-sq .ensures) (c .before .before .same .ensures .0) (c .before .if1 .taken)
+
+slice-aggregate-same-2 : tie.Need-slice-aggregate-same-2
+slice-aggregate-same-2 c = search needs
+
+same-requires-2 : tie.Need-same-requires-2
+same-requires-2 c κs = search needs
+
+same-requires-3 : tie.Need-same-requires-3
+same-requires-3 c κs = search needs
+
+returns-2 : tie.Need-returns-2
+unfolding saidIn
+returns-2 c = is-same3 _ _ _ _ _ (c .same3 .ensures) (c .before .before .same2 .ensures .0) (c .before .if2 .taken)
+
+returns-3 : tie.Need-returns-3
+unfolding saidIn
+returns-3 c =
+    after-pair3 _ _ _ _ _
+    (c .before .before .before .before .same .ensures .1) (c .before .before .before .if1 .left)
+    (c .before .same2 .ensures .1) (c .if2 .left)
+
+pub pair3-spec : {M : Type 1} → statement M
+pair3-spec =
+    tie.close
+    (tie.spec
+    array-read-t11
+    array-read-t14
+    array-read-t17
+    array-read-t11-2
+    array-read-t17-2
+    array-read-t14-2
+    slice-aggregate-same
+    same-requires
+    distance-sq-requires
+    returns
+    slice-aggregate-same-2
+    same-requires-2
+    same-requires-3
+    returns-2
+    returns-3)

@@ -1,0 +1,125 @@
+-- `replay_geometry::question::two` meets its contract. Assumes nothing.
+use mathlib.Core.Path.{_∙_}
+use Rattle.geometry_answers.specs.Shown.{saidIn}
+use Rattle.geometry_questions.proofs.Tests.{is-inside2, is-route2, is-node2, is-meets2, after-two}
+use borrow.Author.Needs.{needs}
+use Rattle.geometry_questions.proofs.two.Statement.{statement}
+use Rattle.geometry_questions.proofs.two.Tie as tie
+
+array-read-t14 : tie.Need-array-read-t14
+array-read-t14 c = search needs
+
+array-read-t17 : tie.Need-array-read-t17
+array-read-t17 c = search needs
+
+array-read-t20 : tie.Need-array-read-t20
+array-read-t20 c = search needs
+
+array-read-t23 : tie.Need-array-read-t23
+array-read-t23 c = search needs
+
+array-read-t14-2 : tie.Need-array-read-t14-2
+array-read-t14-2 c = search needs
+
+array-read-t23-2 : tie.Need-array-read-t23-2
+array-read-t23-2 c = search needs
+
+array-read-t20-2 : tie.Need-array-read-t20-2
+array-read-t20-2 c = search needs
+
+array-read-t17-2 : tie.Need-array-read-t17-2
+array-read-t17-2 c = search needs
+
+slice-aggregate-same : tie.Need-slice-aggregate-same
+slice-aggregate-same c = search needs
+
+same-requires : tie.Need-same-requires
+same-requires c κs = search needs
+
+contains-requires : tie.Need-contains-requires
+contains-requires c κs = search needs
+
+returns : tie.Need-returns
+unfolding saidIn
+returns c = is-inside2 _ _ _ _ _ (c .contains .ensures) (c .before .before .same .ensures .0) (c .before .if1 .taken)
+
+slice-aggregate-same-2 : tie.Need-slice-aggregate-same-2
+slice-aggregate-same-2 c = search needs
+
+same-requires-2 : tie.Need-same-requires-2
+same-requires-2 c κs = search needs
+
+child-index-requires : tie.Need-child-index-requires
+child-index-requires c κs = search needs
+
+returns-2 : tie.Need-returns-2
+unfolding saidIn
+returns-2 c = is-route2 _ _ _ _ _ (c .child-index .ensures) (c .before .before .same2 .ensures .0) (c .before .if2 .taken)
+
+slice-aggregate-same-3 : tie.Need-slice-aggregate-same-3
+slice-aggregate-same-3 c = search needs
+
+same-requires-3 : tie.Need-same-requires-3
+same-requires-3 c κs = search needs
+
+min-distance-sq-requires : tie.Need-min-distance-sq-requires
+min-distance-sq-requires c κs = search needs
+
+returns-3 : tie.Need-returns-3
+unfolding saidIn
+returns-3 c = is-node2 _ _ _ _ _ (c .min-distance-sq .ensures) (c .before .before .same3 .ensures .0) (c .before .if3 .taken)
+
+slice-aggregate-same-4 : tie.Need-slice-aggregate-same-4
+slice-aggregate-same-4 c = search needs
+
+same-requires-4 : tie.Need-same-requires-4
+same-requires-4 c κs = search needs
+
+intersects-requires : tie.Need-intersects-requires
+intersects-requires c κs = search needs
+
+returns-4 : tie.Need-returns-4
+unfolding saidIn
+returns-4 c = is-meets2 _ _ _ _ _ (c .intersects .ensures) (c .before .before .same4 .ensures .0) (c .before .if4 .taken)
+
+pair2-requires : tie.Need-pair2-requires
+pair2-requires c κs = search needs
+
+returns-5 : tie.Need-returns-5
+returns-5 c =
+    c .pair2 .ensures ∙ after-two _ _ _ _ _ _ _
+    (c .before .before .before .before .before .before .before .before .before .before .before .same .ensures .1) (c .before .before .before .before .before .before .before .before .before .before .if1 .left)
+    (c .before .before .before .before .before .before .before .before .same2 .ensures .1) (c .before .before .before .before .before .before .before .if2 .left)
+    (c .before .before .before .before .before .same3 .ensures .1) (c .before .before .before .before .if3 .left)
+    (c .before .before .same4 .ensures .1) (c .before .if4 .left)
+
+pub two-spec : {M : Type 1} → statement M
+two-spec =
+    tie.close
+    (tie.spec
+    array-read-t14
+    array-read-t17
+    array-read-t20
+    array-read-t23
+    array-read-t14-2
+    array-read-t23-2
+    array-read-t20-2
+    array-read-t17-2
+    slice-aggregate-same
+    same-requires
+    contains-requires
+    returns
+    slice-aggregate-same-2
+    same-requires-2
+    child-index-requires
+    returns-2
+    slice-aggregate-same-3
+    same-requires-3
+    min-distance-sq-requires
+    returns-3
+    slice-aggregate-same-4
+    same-requires-4
+    intersects-requires
+    returns-4
+    pair2-requires
+    returns-5)
