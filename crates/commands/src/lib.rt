@@ -3,10 +3,10 @@ ghost use mathlib.Core.Path.{_≡_};
 ghost use mathlib.Core.Bool.{cond};
 ghost use Rattle.record.specs.Commands.{wordOf};
 ghost use Rattle.commands.specs.Commands.{callIn, made, says};
-use record::Word;
 use fields::find;
 use fields::numbers_of;
 use fields::word_of;
+use record::Word;
 use record::numbers::Whole;
 use tree::region::axes;
 

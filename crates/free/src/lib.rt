@@ -4,12 +4,12 @@ ghost use lib.ListN.{getD};
 ghost use Rattle.words.specs.Words.{words};
 ghost use Rattle.pool.specs.Writes.{popped, pushed, taken, given};
 ghost use Rattle.pool.specs.Meanings.{TakesPlace, GivesPlace, TakesGroup, GivesGroup};
-use words::get;
-use words::put;
 use pool::child;
 use pool::group;
 use pool::next;
 use pool::set_field;
+use words::get;
+use words::put;
 
 // Takes the first free place: 0 where there is none. Word 0 of the links is then 0, and is its own next.
 pub fn take_place(links: &mut [u8]) -> u32

@@ -3,12 +3,12 @@ ghost use mathlib.Core.Path.{_≡_};
 ghost use Rattle.words.specs.Words.{words};
 ghost use Rattle.pool.specs.Writes.{pool, ended, appended, relasted, cutOut};
 ghost use Rattle.pool.specs.Meanings.{Appends, Cuts};
-use words::put;
 use pool::count_down;
 use pool::count_up;
 use pool::last;
 use pool::next;
 use pool::set_field;
+use words::put;
 
 // Makes p the last place of node i, which has one point more.
 fn end_with(nodes: &mut [u8], i: usize, p: u32)

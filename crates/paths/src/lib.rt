@@ -11,10 +11,10 @@ ghost use Rattle.trees.proofs.Deletes.{Along};
 ghost use Rattle.trees.proofs.Walks.{Notes};
 ghost use Rattle.trees.proofs.Ways.{countedAll};
 use groups::merge;
+use lists::cut;
 use pool::count;
 use pool::count_down;
 use pool::count_up;
-use lists::cut;
 use pool::group;
 
 // Notes place p as number n, if it is to be noted: how many are then noted.

@@ -7,15 +7,15 @@ ghost use Rattle.pool.specs.Writes.{pool};
 ghost use Rattle.tree.specs.Depths.{coords, kind};
 ghost use Rattle.trees.proofs.Deletes.{Along};
 ghost use Rattle.trees.specs.Pieces.{pieces, DoesHeld};
+use free::give_place;
 use geometry::space::Point3D;
 use paths::delete_along;
 use pool::first;
-use free::give_place;
-use tree_descent::descent::find_in;
-use tree_descent::descent::leaf_of;
 use tree::head::boundary;
 use tree::head::capacity;
 use tree::region::contains;
+use tree_descent::descent::find_in;
+use tree_descent::descent::leaf_of;
 
 // Takes place p, which stands after place b, from the list of node end, and merges on the way up. The first nodes of the path, as many as the depth, are those on the way.
 fn unlink(

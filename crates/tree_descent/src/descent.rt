@@ -12,10 +12,6 @@ ghost use Rattle.trees.proofs.Descents.{reach, together, Needs};
 ghost use Rattle.trees.proofs.Finds.{seek};
 ghost use Rattle.trees.proofs.Walks.{Notes};
 ghost use Rattle.trees.proofs.Ways.{way};
-use tree::place::point_at;
-use tree::region;
-use tree::region::axes;
-use tree::region::kid;
 use geometry::space::Cube;
 use geometry::space::Point3D;
 use paths::note_node;
@@ -24,6 +20,10 @@ use pool::count;
 use pool::first;
 use pool::group;
 use pool::next;
+use tree::place::point_at;
+use tree::region;
+use tree::region::axes;
+use tree::region::kid;
 
 // A node with its box, the levels below it, and how many nodes were noted on the way to it.
 pub struct Leaf {

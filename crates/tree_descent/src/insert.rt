@@ -11,18 +11,18 @@ ghost use Rattle.trees.specs.Points.{pointAt};
 ghost use Rattle.trees.proofs.Walks.{Notes};
 ghost use Rattle.trees.proofs.Turns.{turned, Parts};
 ghost use Rattle.trees.proofs.Inserts.{Fills};
-use tree::place::point_at;
-use tree::region;
-use tree::region::kid;
-use tree::region::ways;
 use geometry::space::Cube;
 use groups::split;
-use paths::note_turn;
 use lists::append;
+use paths::note_turn;
 use pool::count;
 use pool::count_up;
 use pool::first;
 use pool::next;
+use tree::place::point_at;
+use tree::region;
+use tree::region::kid;
+use tree::region::ways;
 
 // The child that each point of a list goes to, in the order of the list.
 fn turns_of(

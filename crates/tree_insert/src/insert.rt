@@ -12,20 +12,20 @@ ghost use Rattle.trees.specs.Points.{pointAt};
 ghost use Rattle.trees.proofs.Changes.{Rooms, Stores};
 ghost use Rattle.trees.proofs.Descents.{reach};
 ghost use Rattle.trees.proofs.Ways.{way};
-use tree_create::put::put_point;
+use free::take_place;
 use geometry::space::Cube;
 use geometry::space::Point3D;
 use groups::has_groups;
 use paths::count_along;
 use pool::count;
-use free::take_place;
-use tree_descent::descent::leaf_of;
-use tree_descent::descent::need;
 use tree::head::boundary;
 use tree::head::capacity;
-use tree_descent::insert::insert_within;
 use tree::region::contains;
 use tree::region::ways;
+use tree_create::put::put_point;
+use tree_descent::descent::leaf_of;
+use tree_descent::descent::need;
+use tree_descent::insert::insert_within;
 
 // Whether enough groups are free for the splits that a point brings to the undivided node that it goes to.
 fn has_room(

@@ -4,10 +4,10 @@ ghost use Rattle.tree.specs.Depths.{coords, kind};
 ghost use Rattle.trees.specs.Pieces.{AsksHeld, pieces};
 use geometry::space::Point3D;
 use pool::first;
-use tree_descent::descent::find_in;
-use tree_descent::descent::leaf_of;
 use tree::head::boundary;
 use tree::region;
+use tree_descent::descent::find_in;
+use tree_descent::descent::leaf_of;
 
 // A point inside the boundary is sought in the one list that it goes to.
 pub fn contains(

@@ -14,8 +14,8 @@ use answers::answer;
 use geometry::space::Cube;
 use geometry::space::Point3D;
 use tree::head::boundary;
-use tree_search::nearest::knn_search_helper;
 use tree::region::axes;
+use tree_search::nearest::knn_search_helper;
 use tree_search::search::Question;
 use tree_search::search::collect;
 

@@ -11,10 +11,6 @@ ghost use Rattle.knn.specs.Candidates.{dists, items, numbered, room};
 ghost use Rattle.trees.specs.Points.{pointAt};
 ghost use Rattle.trees.proofs.Seeks.{candidate, nears};
 ghost use Rattle.trees.proofs.Tables.{Tables, offering, Seeks};
-use tree::place::point_at;
-use tree::region;
-use tree::region::kid;
-use tree::region::ways;
 use geometry::space::Cube;
 use geometry::space::Point3D;
 use knn::offer;
@@ -23,6 +19,10 @@ use knn::worst;
 use pool::first;
 use pool::group;
 use pool::next;
+use tree::place::point_at;
+use tree::region;
+use tree::region::kid;
+use tree::region::ways;
 
 // Children by their node distances; where there are four, what stands behind them is not looked at.
 pub struct Order {

@@ -9,16 +9,16 @@ ghost use Rattle.trees.specs.Points.{pointAt};
 ghost use Rattle.trees.proofs.Walks.{Notes};
 ghost use Rattle.trees.proofs.Collects.{Collects, passing};
 ghost use Rattle.tree_search.specs.Questions.{meets, takes};
-use tree::place::point_at;
-use tree::region;
-use tree::region::kid;
-use tree::region::ways;
 use geometry::space::Cube;
 use geometry::space::Point3D;
 use paths::note;
 use pool::first;
 use pool::group;
 use pool::next;
+use tree::place::point_at;
+use tree::region;
+use tree::region::kid;
+use tree::region::ways;
 
 // What is asked: the points within a squared radius, or those in a box.
 pub enum Question {
