@@ -19,7 +19,7 @@ use tree::region::ways;
 fn empty(deep: bool, nodes: &mut [u8], links: &mut [u8])
     ensures { λ _. ⌜ Empties (ways (kind deep)) (pool (now (nodes .entry)) (now (links .entry))) (pool (now (nodes .exit)) (now (links .exit))) 1 ⌝ }
 {
-    groups::clear(nodes, links, ways(deep), 1);
+    clearing::clear(nodes, links, ways(deep), 1);
 }
 
 // Makes an empty tree in any pieces, once the answer is known, so that a refusal leaves them as they were: 0, or 8 where a piece has a wrong length, 3 for capacity 0, 4 for a boundary that is not taken.

@@ -1,8 +1,8 @@
 -- `groups::clear` meets its contract. Assumes nothing.
 use Rattle.groups.proofs.Walks.{empties}
 use borrow.Author.Needs.{needs}
-use Rattle.groups.proofs.clear.Statement.{statement}
-use Rattle.groups.proofs.clear.Tie as tie
+use Rattle.clearing.proofs.clear.Statement.{statement}
+use Rattle.clearing.proofs.clear.Tie as tie
 
 free-groups-requires : tie.Need-free-groups-requires
 free-groups-requires c κs = search needs

@@ -1,8 +1,8 @@
 -- `groups::rows` meets its contract. Assumes nothing.
 use Rattle.groups.proofs.Walks.{rows-none}
 use borrow.Author.Needs.{needs}
-use Rattle.groups.proofs.rows.Statement.{statement}
-use Rattle.groups.proofs.rows.Tie as tie
+use Rattle.clearing.proofs.rows.Statement.{statement}
+use Rattle.clearing.proofs.rows.Tie as tie
 
 returns : tie.Need-returns
 returns c = rows-none _ _ (c .if1 .taken)

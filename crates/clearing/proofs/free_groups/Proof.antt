@@ -7,8 +7,8 @@ use Prim.Native.Nat.{_<_, _-_}
 use mathlib.Core.Path.{_≡_, refl, _∙_}
 use native.Mathlib.Omega.{arith}
 use borrow.Author.Needs.{needs}
-use Rattle.groups.proofs.free_groups.Statement.{statement}
-use Rattle.groups.proofs.free_groups.Tie as tie
+use Rattle.clearing.proofs.free_groups.Statement.{statement}
+use Rattle.clearing.proofs.free_groups.Tie as tie
 
 abbrev Inv-loop : tie.InvT-loop
 Inv-loop nodes₀ ways k₀ nodes k = (givenDown ways (k - 1) (words nodes) ≡ givenDown ways (k₀ - 1) (words nodes₀)) × (k < 4294967296) × (length nodes ≡ length nodes₀)

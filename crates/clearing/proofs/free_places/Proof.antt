@@ -7,8 +7,8 @@ use Prim.Native.Nat.{_<_, _-_}
 use mathlib.Core.Path.{_≡_, refl, _∙_}
 use native.Mathlib.Omega.{arith}
 use borrow.Author.Needs.{needs}
-use Rattle.groups.proofs.free_places.Statement.{statement}
-use Rattle.groups.proofs.free_places.Tie as tie
+use Rattle.clearing.proofs.free_places.Statement.{statement}
+use Rattle.clearing.proofs.free_places.Tie as tie
 
 abbrev Inv-loop : tie.InvT-loop
 Inv-loop links₀ p₀ links p = (pushedDown (p - 1) (words links) ≡ pushedDown (p₀ - 1) (words links₀)) × (p < 4294967296) × (length links ≡ length links₀)
