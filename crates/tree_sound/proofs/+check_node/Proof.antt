@@ -23,9 +23,9 @@ use Rattle.tree.proofs.region.ways.Reads as ways-reads
 use Rattle.tree.proofs.region.kid.Reads as kid-reads
 use Rattle.pool.proofs.count.Reads as count-reads
 use Rattle.pool.proofs.group.Reads as group-reads
-use Rattle.tree_sound.proofs.check_leaf.Reads as check-leaf-reads
-use Rattle.tree_sound.proofs.low_part.Reads as low-part-reads
-use Rattle.tree_sound.proofs.top_part.Reads as top-part-reads
+use Rattle.tree_sound_leaves.proofs.check_leaf.Reads as check-leaf-reads
+use Rattle.tree_sound_leaves.proofs.low_part.Reads as low-part-reads
+use Rattle.tree_sound_leaves.proofs.top_part.Reads as top-part-reads
 use Rattle.sound.proofs.children_count.Reads as children-count-reads
 use Rattle.sound.proofs.claim.Reads as claim-reads
 use Rattle.tree_sound.proofs.+check_node.{statement}

@@ -4,8 +4,8 @@ use Rattle.trees.specs.Points.{pointAt}
 use Rattle.trees.proofs.Areas.{bounding}
 use Rattle.trees.proofs.Checks.{Listing, listing-start, listing-over, listing-met, listing-out, listing-step, listing-end}
 use Rattle.tree.specs.Depths.{kind, place}
-use Rattle.tree_sound.proofs.check_list.Statement.{statement}
-use Rattle.tree_sound.proofs.check_list.Tie as tie
+use Rattle.tree_sound_leaves.proofs.check_list.Statement.{statement}
+use Rattle.tree_sound_leaves.proofs.check_list.Tie as tie
 
 abbrev Inv-loop : tie.InvT-loop
 Inv-loop deep links points head tail n low top edge homes₀ left₀ p₀ b₀ homes left p b = Listing (pointAt (kind deep .axes) (words points)) (words links) (bounding (place deep low) (place deep top) (place deep edge)) head tail n homes₀ homes p b left

@@ -6,8 +6,8 @@ use Rattle.trees.proofs.Areas.{lows, lows-more, lows-none}
 use Rattle.trees.proofs.Collects.{said-no, said-yes}
 use Rattle.tree.specs.Depths.{place, sides}
 use borrow.Author.Needs.{needs}
-use Rattle.tree_sound.proofs.low_part.Statement.{statement}
-use Rattle.tree_sound.proofs.low_part.Tie as tie
+use Rattle.tree_sound_leaves.proofs.low_part.Statement.{statement}
+use Rattle.tree_sound_leaves.proofs.low_part.Tie as tie
 
 low-half-requires : tie.Need-low-half-requires
 low-half-requires c κs = search needs

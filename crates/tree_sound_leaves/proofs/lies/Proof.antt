@@ -4,8 +4,8 @@ use mathlib.Core.List.{[], _∷_}
 use Rattle.trees.proofs.Areas.{bounding, lies, lies-last, lies-more}
 use Rattle.tree.specs.Depths.{place}
 use borrow.Author.Needs.{needs}
-use Rattle.tree_sound.proofs.lies.Statement.{statement}
-use Rattle.tree_sound.proofs.lies.Tie as tie
+use Rattle.tree_sound_leaves.proofs.lies.Statement.{statement}
+use Rattle.tree_sound_leaves.proofs.lies.Tie as tie
 
 point-at-requires : tie.Need-point-at-requires
 point-at-requires c κs = search needs

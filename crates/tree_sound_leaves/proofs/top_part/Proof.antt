@@ -6,8 +6,8 @@ use Rattle.trees.proofs.Areas.{tops, tops-more, tops-none}
 use Rattle.trees.proofs.Collects.{said-no, said-yes}
 use Rattle.tree.specs.Depths.{place, sides}
 use borrow.Author.Needs.{needs}
-use Rattle.tree_sound.proofs.top_part.Statement.{statement}
-use Rattle.tree_sound.proofs.top_part.Tie as tie
+use Rattle.tree_sound_leaves.proofs.top_part.Statement.{statement}
+use Rattle.tree_sound_leaves.proofs.top_part.Tie as tie
 
 top-half-requires : tie.Need-top-half-requires
 top-half-requires c κs = search needs

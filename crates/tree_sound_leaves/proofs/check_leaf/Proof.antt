@@ -1,7 +1,7 @@
 use Rattle.trees.proofs.Checks.{leaf-over, leaf-places}
 use borrow.Author.Needs.{needs}
-use Rattle.tree_sound.proofs.check_leaf.Statement.{statement}
-use Rattle.tree_sound.proofs.check_leaf.Tie as tie
+use Rattle.tree_sound_leaves.proofs.check_leaf.Statement.{statement}
+use Rattle.tree_sound_leaves.proofs.check_leaf.Tie as tie
 
 count-requires : tie.Need-count-requires
 count-requires c κs = search needs
