@@ -8,7 +8,7 @@ ghost use Rattle.trees.specs.Pieces.{pieces};
 ghost use Rattle.tree.specs.Depths.{kind};
 ghost use Rattle.replies.specs.Programs.{Keeps, longest};
 ghost use Rattle.commands.specs.Commands.{says};
-ghost use Rattle.turns.specs.Places.{Ran, first, goesOn};
+ghost use Rattle.turns.specs.Places.{Turned, first, goesOn};
 ghost use Rattle.turns.specs.declared.Next.the-variants.{Read};
 use turns::Next;
 use turns::Place;
@@ -82,8 +82,8 @@ fn begin() -> Place
     }
 }
 
-// Answers the records of standard input on standard output, from pieces that hold no tree, till the input ends or answers cannot be written.
-pub fn run(
+// Answers the records of standard input on standard output, from pieces that hold no tree, till the input ends or answers cannot be written. Returns the place that was reached.
+fn take_turns(
     deep: bool,
     head: &mut [u8],
     nodes: &mut [u8],
@@ -91,9 +91,9 @@ pub fn run(
     points: &mut [u8],
     text: &mut [u8],
     out: &mut [u8],
-)
+) -> Place
     requires { ⌜ (133 < length (now text)) × (longest (kind deep .axes) ≤ length (now out)) × Keeps (kind deep) false (pieces (now head) (now nodes) (now links) (now points)) broken ⌝ }
-    ensures { λ _. ⌜ Ran (kind deep) (says deep) (pieces (now (head .exit)) (now (nodes .exit)) (now (links .exit)) (now (points .exit))) ⌝ }
+    ensures { λ r. ⌜ Turned (kind deep) (says deep) r (pieces (now (head .exit)) (now (nodes .exit)) (now (links .exit)) (now (points .exit))) (now (text .exit)) ⌝ }
 {
     let mut place = begin();
     let mut going = true;
@@ -108,5 +108,40 @@ pub fn run(
         let after = place.next;
         going = hand_on(deep, &out[0..ready]) & goes_on(after);
         turns -= 1;
+    }
+    place
+}
+
+// The command program of either tree, over arrays of its own.
+pub fn run(deep: bool) {
+    let mut text = io::large_buffer();
+    let mut out = io::large_buffer();
+    let mut links: [u8; 2052] = [0; 2052];
+    if deep {
+        let mut head: [u8; 56] = [0; 56];
+        let mut nodes: [u8; 5248] = [0; 5248];
+        let mut points: [u8; 16416] = [0; 16416];
+        take_turns(
+            true,
+            &mut head,
+            &mut nodes,
+            &mut links,
+            &mut points,
+            &mut text,
+            &mut out,
+        );
+    } else {
+        let mut head: [u8; 40] = [0; 40];
+        let mut nodes: [u8; 5504] = [0; 5504];
+        let mut points: [u8; 12312] = [0; 12312];
+        take_turns(
+            false,
+            &mut head,
+            &mut nodes,
+            &mut links,
+            &mut points,
+            &mut text,
+            &mut out,
+        );
     }
 }

@@ -1,9 +1,8 @@
--- A turn of a program, and the turns from the very start. Over any kind of tree and any meaning `of` of one record.
+-- A turn of a program, and that turns follow each other. Over any kind of tree and any meaning `of` of one record.
 use Prim.Native.Nat.{ℕ, zero, suc, _+_, _-_, _≤_, _<_}
 use mathlib.Core.Path.{_≡_, refl, sym, ap, ap₂, _∙_, subst, subst₂, subst⁻¹}
-use mathlib.Core.Logic.{_≢_}
-use mathlib.Core.Bool.{Bool, true, false, cond, not}
-use mathlib.Core.List.{List, [], _∷_, _++_, append-assoc, append-nil, flatten}
+use mathlib.Core.Bool.{Bool, true, false, not, _&&_}
+use mathlib.Core.List.{List, [], _∷_, _++_, append-nil}
 use mathlib.Core.Option.{Option}
 use native.Mathlib.Nat.{sub-zero}
 use native.Mathlib.Omega.{arith}
@@ -15,12 +14,12 @@ use Rattle.trees.specs.Pieces.{Pieces}
 use Rattle.record.specs.Input.{Unended, begun, records, unended}
 use Rattle.record.proofs.Kept.{kept-front}
 use Rattle.record.proofs.Parts.{rest-is}
-use Rattle.record.proofs.Streams.{unended-take}
-use Rattle.replies.specs.Lines.{lines}
-use Rattle.replies.specs.Programs.{Feeds, Keeps, Puts, Wrote, longest}
-use Rattle.replies.specs.Runs.{Run, chunk, clip, end, fed}
-use Rattle.replies.proofs.Runs.{any-cutting}
-use Rattle.turns.specs.Places.{Digests, Going, Left, Sits, Works, atEnd, bytesOf, came, carried, first, goesOn}
+use Rattle.record.proofs.Reading.{no}
+use Rattle.record.proofs.Streams.{records-end, unended-take}
+use Rattle.replies.specs.Lines.{lines, state}
+use Rattle.replies.specs.Programs.{Fed, Feeds, Keeps, Puts, Wrote, longest}
+use Rattle.turns.specs.Places.{Digests, Sits, Turned, Works, atEnd, begin, bytesOf, came, carried, first, given, goesOn, turn}
+use Rattle.turns.proofs.Turns.{fed-kept, turns-keep, unended-state}
 use Rattle.turns.specs.declared.Next.{Next}
 use Rattle.turns.specs.declared.Next.the-variants as next
 use Rattle.turns.specs.declared.Place.{Place}
@@ -64,13 +63,12 @@ module _ (k : Kind) (of : List ℕ → Option Call) (text : List ℕ) (from end'
   full = record { from = from + read; end = end'; start = start'; held = held'; ready = to; next = next.Work }
 
   pub digests-full : (a : State) → Keeps k held s a → Digests k of a start (bytesOf from end' text) full s' text out out'
-  unfolding Left
   digests-full a y =
       let g = f a y in
       record {
         state = g .state;
         keeps = g .keeps;
-        goes-on = λ chunks more l. subst (λ (o : List ℕ). Run k of a start (bytesOf from end' text) chunks (o ++ more)) (sym (front out (g .printed) out' to (g .wrote) (bounds .1))) (fed (g .fed) (subst (λ (b : List ℕ). Run k of (g .state) start' b chunks more) (sym (further text from end' read)) l));
+        fed = subst₂ (λ (b o : List ℕ). Fed k of a start (bytesOf from end' text) (g .state) start' b o) (further text from end' read) (sym (front out (g .printed) out' to (g .wrote) (bounds .1))) (g .fed);
         rest = behind out (g .printed) out' to (g .wrote) (bounds .1);
       }
 
@@ -99,13 +97,12 @@ module _ (k : Kind) (of : List ℕ → Option Call) (text : List ℕ) (from end'
         ap₂ (λ (j : ℕ) (l : List ℕ). take j l) (sub-zero m ∙ many) moved ∙ kept-front text (take 133 (bytesOf (from + read) end' text)) (omega (arith, many, kept-within)) ∙ ap (take 133) (sym (further text from end' read))
 
     pub digests-ahead : (a : State) → Keeps k held s a → Digests k of a start (bytesOf from end' text) ahead s' text' out out'
-    unfolding Left
     digests-ahead a y =
         let g = f a y in
         record {
           state = g .state;
           keeps = g .keeps;
-          goes-on = λ chunks more l. subst (λ (o : List ℕ). Run k of a start (bytesOf from end' text) chunks (o ++ more)) (sym (front out (g .printed) out' to (g .wrote) (bounds .1))) (fed (g .fed) (clip ended (subst (λ (b : List ℕ). Run k of (g .state) start' b chunks more) kept-is l)));
+          fed = subst₂ (λ (b o : List ℕ). Fed k of a start (bytesOf from end' text) (g .state) start' b o) (sym kept-is) (sym (front out (g .printed) out' to (g .wrote) (bounds .1))) (fed-kept k of ended (g .fed));
           rest = behind out (g .printed) out' to (g .wrote) (bounds .1);
         }
 
@@ -120,51 +117,51 @@ module _ (k : Kind) (of : List ℕ → Option Call) (text : List ℕ) (from end'
 
 -- ---- a turn, by what comes next
 module _ (k : Kind) (of : List ℕ → Option Call) (p : Place) (got : ℕ) (text : List ℕ) (s : Pieces) (out : List ℕ) where
-  pub works-on : p .next ≡ next.Work → (p' : Place) (s' : Pieces) (text' out' : List ℕ) → ((a : State) → Keeps k (p .held) s a → Digests k of a (p .start) (carried p text) p' s' text' out out') → (a : State) → Keeps k (p .held) s a → Works k of a p got text p' s' text' out out'
-  unfolding Left came
-  works-on e p' s' text' out' f a y =
-      let d = f a y in
-      record {
-        state = d .state;
-        keeps = d .keeps;
-        goes-on = λ chunks more l. subst⁻¹ (λ (n : Next). Left k of n a (p .start) (carried p text) (came n got (p .end) text ++ chunks) (take (p' .ready) out' ++ more)) e (d .goes-on chunks more l);
-        rest = d .rest;
-      }
+  -- bytes were answered and something comes next: they are those that the turn had before it
+  works-fed : {b : List ℕ} → b ≡ given p got text → goesOn (p .next) ≡ true → (p' : Place) (s' : Pieces) (text' out' : List ℕ) → goesOn (p' .next) ≡ true → {a : State} → Digests k of a (p .start) b p' s' text' out out' → Works k of a p got text p' s' text' out out'
+  works-fed e on p' s' text' out' more {a} d = record {
+    state = d .state;
+    keeps = d .keeps;
+    goes-on = λ l. subst (λ (b : List ℕ). Fed k of a (p .start) b (d .state) (p' .start) (carried p' text') (take (p' .ready) out')) e (d .fed);
+    ends = λ l n. no (sym n ∙ more);
+    over = λ l. no (sym l ∙ on);
+    rest = d .rest;
+  }
 
-  pub works-chunk : p .next ≡ next.Read → p .from ≤ p .end → 0 < got → (p' : Place) (s' : Pieces) (text' out' : List ℕ) → ((a : State) → Keeps k (p .held) s a → Digests k of a (p .start) (bytesOf (p .from) (p .end + got) text) p' s' text' out out')
-      → (a : State) → Keeps k (p .held) s a → Works k of a p got text p' s' text' out out'
-  unfolding Left came
-  works-chunk e h g p' s' text' out' f a y =
-      let d = f a y in
-      let some : got ≢ 0 = λ z. omega (arith, z, g) in
-      record {
-        state = d .state;
-        keeps = d .keeps;
-        goes-on = λ chunks more l.
-            subst⁻¹ (λ (n : Next). Left k of n a (p .start) (carried p text) (came n got (p .end) text ++ chunks) (take (p' .ready) out' ++ more)) e
-            (subst⁻¹ (λ (t : Bool). Run k of a (p .start) (carried p text) (cond t [] (take got (drop (p .end) text) ∷ []) ++ chunks) (take (p' .ready) out' ++ more)) (ne-eqb got 0 some)
-            (chunk (subst (λ (b : List ℕ). Run k of a (p .start) b chunks (take (p' .ready) out' ++ more)) (longer text (p .from) (p .end) got h) (d .goes-on chunks more l))));
-        rest = d .rest;
-      }
+  pub works-on : p .next ≡ next.Work → (p' : Place) (s' : Pieces) (text' out' : List ℕ) → ((a : State) → Keeps k (p .held) s a → Digests k of a (p .start) (carried p text) p' s' text' out out') → goesOn (p' .next) ≡ true → (a : State) → Keeps k (p .held) s a → Works k of a p got text p' s' text' out out'
+  unfolding came goesOn
+  works-on e p' s' text' out' f more a y =
+      works-fed (sym (append-nil (carried p text)) ∙ ap (λ (n : Next). carried p text ++ came n got (p .end) text) (sym e)) (ap goesOn e) p' s' text' out' more (f a y)
+
+  pub works-chunk : p .next ≡ next.Read → p .from ≤ p .end → (p' : Place) (s' : Pieces) (text' out' : List ℕ) → ((a : State) → Keeps k (p .held) s a → Digests k of a (p .start) (bytesOf (p .from) (p .end + got) text) p' s' text' out out')
+      → goesOn (p' .next) ≡ true → (a : State) → Keeps k (p .held) s a → Works k of a p got text p' s' text' out out'
+  unfolding came goesOn
+  works-chunk e h p' s' text' out' f more a y =
+      works-fed (longer text (p .from) (p .end) got h ∙ ap (λ (n : Next). carried p text ++ came n got (p .end) text) (sym e)) (ap goesOn e) p' s' text' out' more (f a y)
 
   -- the end of the input
   module _ (ready : ℕ) (out' : List ℕ) where
     abbrev last : Place
     last = record { from = p .end; end = p .end; start = p .start; held = p .held; ready = ready; next = next.Done }
 
+    nothing-came : p .next ≡ next.Read → got ≤ 0 → given p got text ≡ carried p text
+    unfolding came
+    nothing-came e z =
+        let none : got ≡ 0 = omega (arith, z) in
+        ap₂ (λ (n : Next) (g : ℕ). carried p text ++ came n g (p .end) text) e none ∙ append-nil (carried p text)
+
     pub works-end : p .next ≡ next.Read → got ≤ 0 → Unended (carried p text) → 12 ≤ length out → ready ≤ length out → ((k : Kind) (a : State) → Puts 12 out 0 (lines k a (unended (begun (p .start) (carried p text)))) out' ready)
         → (a : State) → Keeps k (p .held) s a → Works k of a p got text last s text out out'
-    unfolding Left came
+    unfolding goesOn
     works-end e z u room fits w a y =
         let q = w k a .wrote (omega (arith, room)) in
-        let no : got ≡ 0 = omega (arith, z) in
+        let all : unended (begun (p .start) (carried p text)) ≡ records of (p .start) (given p got text) = sym (records-end of (p .start) (carried p text) u) ∙ ap (records of (p .start)) (sym (nothing-came e z)) in
         record {
           state = a;
           keeps = y;
-          goes-on = λ chunks more l.
-              subst⁻¹ (λ (n : Next). Left k of n a (p .start) (carried p text) (came n got (p .end) text ++ chunks) (take ready out' ++ more)) e
-              (subst⁻¹ (λ (t : Bool). Run k of a (p .start) (carried p text) (cond t [] (take got (drop (p .end) text) ∷ []) ++ chunks) (take ready out' ++ more)) (eq-eqb got 0 no)
-              (subst₂ (λ (cs : List (List ℕ)) (o : List ℕ). Run k of a (p .start) (carried p text) cs o) (sym (l .0)) (sym (append-nil (lines k a (unended (begun (p .start) (carried p text))))) ∙ ap₂ (λ (x y : List ℕ). x ++ y) (sym (front out (lines k a (unended (begun (p .start) (carried p text)))) out' ready q fits)) (sym (l .1))) (end u)));
+          goes-on = λ l. no l;
+          ends = λ l n. (front out (lines k a (unended (begun (p .start) (carried p text)))) out' ready q fits ∙ ap (lines k a) all, sym (unended-state k a (begun (p .start) (carried p text))) ∙ ap (state k a) all);
+          over = λ l. no (sym l ∙ ap goesOn e);
           rest = behind out (lines k a (unended (begun (p .start) (carried p text)))) out' ready q fits;
         }
 
@@ -173,11 +170,13 @@ module _ (k : Kind) (of : List ℕ → Option Call) (p : Place) (got : ℕ) (tex
   over = record { from = p .from; end = p .end; start = p .start; held = p .held; ready = 0; next = next.Done }
 
   pub works-over : p .next ≡ next.Done → (a : State) → Keeps k (p .held) s a → Works k of a p got text over s text out out
-  unfolding Left came
+  unfolding goesOn
   works-over e a y = record {
     state = a;
     keeps = y;
-    goes-on = λ chunks more l. subst⁻¹ (λ (n : Next). Left k of n a (p .start) (carried p text) (came n got (p .end) text ++ chunks) (take 0 out ++ more)) e l;
+    goes-on = λ l. no l;
+    ends = λ l n. no (sym (ap goesOn e) ∙ l);
+    over = λ l. (refl, refl);
     rest = refl;
   }
 
@@ -201,11 +200,7 @@ module _ (k : Kind) (p : Place) (text out : List ℕ) where
   }
 
 -- ---- turns from the very start
-module _ (k : Kind) (of : List ℕ → Option Call) where
-  pub going-start : (s : Pieces) (text : List ℕ) → Keeps k false s broken → Going k of first s text
-  unfolding Left
-  going-start s text y = record { seen = []; printed = []; state = broken; keeps = y; goes-on = λ chunks more l. l }
-
+module _ (k : Kind) where
   pub sits-start : (text out : List ℕ) → Sits k first text out
   sits-start text out = record {
     ordered = omega arith;
@@ -214,30 +209,6 @@ module _ (k : Kind) (of : List ℕ → Option Call) where
     reads = λ e. (omega arith, λ i h. absurd (omega (arith, h)));
     works = λ e. let z : _≡_ {A = ℕ} 0 1 = cc in absurd (omega arith);
   }
-
-  going-step : (p : Place) (s : Pieces) (text text₁ : List ℕ) (got : ℕ) (p' : Place) (s' : Pieces) (text' out out' : List ℕ) → Going k of p s text → carried p text₁ ≡ carried p text
-      → ((a : State) → Keeps k (p .held) s a → Works k of a p got text₁ p' s' text' out out') → Going k of p' s' text'
-  going-step p s text text₁ got p' s' text' out out' g e f =
-      let w = f (g .state) (g .keeps) in
-      let c = came (p .next) got (p .end) text₁ in
-      let t = take (p' .ready) out' in
-      record {
-        seen = g .seen ++ c;
-        printed = g .printed ++ t;
-        state = w .state;
-        keeps = w .keeps;
-        goes-on = λ chunks more l.
-            subst₂ (λ (cs : List (List ℕ)) (o : List ℕ). Run k of broken true [] cs o) (sym (append-assoc (g .seen) c chunks)) (sym (append-assoc (g .printed) t more))
-            (g .goes-on (c ++ chunks) (t ++ more) (subst (λ (b : List ℕ). Left k of (p .next) (g .state) (p .start) b (c ++ chunks) (t ++ more)) e (w .goes-on chunks more l)));
-      }
-
-  -- at the end all is printed that the whole input asks for, however it was cut
-  pub going-end : (p : Place) (s : Pieces) (text : List ℕ) (g : Going k of p s text) → p .next ≡ next.Done → g .printed ≡ lines k broken (records of true (flatten (g .seen)))
-  unfolding Left
-  going-end p s text g e =
-      any-cutting k of
-      (subst₂ (λ (cs : List (List ℕ)) (o : List ℕ). Run k of broken true [] cs o) (append-nil (g .seen)) (append-nil (g .printed))
-      (g .goes-on [] [] (subst⁻¹ (λ (n : Next). Left k of n (g .state) (p .start) (carried p text) [] []) e (refl, refl))))
 
 -- ---- a read behind what is carried
 pub length-rest : (text : List ℕ) (till : ℕ) → length (take (length text - till) (drop till text)) ≡ length text - till
@@ -256,8 +227,10 @@ module _ (k : Kind) (of : List ℕ → Option Call) (p : Place) (text text₁ : 
     works = h .works;
   }
 
-  pub going-on : (s : Pieces) (got : ℕ) (p' : Place) (s' : Pieces) (text' out out' : List ℕ) → Going k of p s text → ((a : State) → Keeps k (p .held) s a → Works k of a p got text₁ p' s' text' out out') → Going k of p' s' text'
-  going-on s got p' s' text' out out' g f = going-step k of p s text text₁ got p' s' text' out out' g (carried-same p text text₁ same) f
+  pub turned-on : (s : Pieces) (got : ℕ) (p' : Place) (s' : Pieces) (text' out out' : List ℕ) → Turned k of p s text → goesOn (p .next) ≡ true → ((a : State) → Keeps k (p .held) s a → Works k of a p got text₁ p' s' text' out out') → Turned k of p' s' text'
+  turned-on s got p' s' text' out out' t on f =
+      let w = f (t .state) (turns-keep k of (t .turns)) in
+      record { input = t .input ++ came (p .next) got (p .end) text₁; printed = t .printed ++ take (p' .ready) out'; state = w .state; turns = turn (t .turns) on (carried-same p text text₁ same) w }
 
 -- ---- whether a turn is the last
 pub ends-chunk : (n : Next) (got : ℕ) (g : Bool) → n ≡ next.Read → 0 < got → g ≡ true → g ≡ not (atEnd n got)
@@ -277,5 +250,14 @@ unfolding atEnd goesOn
 ends-done n got e = subst⁻¹ (λ (m : Next). false ≡ not (atEnd m got)) e refl
 
 -- the place where a program begins, however the code has it
-pub begins : (k : Kind) (of : List ℕ → Option Call) (p : Place) (s : Pieces) (text out : List ℕ) → p ≡ first → Keeps k false s broken → Going k of p s text × Sits k p text out
-begins k of p s text out e h = (subst⁻¹ (λ (q : Place). Going k of q s text) e (going-start k of s text h), subst⁻¹ (λ (q : Place). Sits k q text out) e (sits-start k of text out))
+pub begins : (k : Kind) (of : List ℕ → Option Call) (p : Place) (s : Pieces) (text out : List ℕ) → p ≡ first → Keeps k false s broken → Turned k of p s text × Sits k p text out
+begins k of p s text out e h = (subst⁻¹ (λ (q : Place). Turned k of q s text) e (record { input = []; printed = []; state = broken; turns = begin h }), subst⁻¹ (λ (q : Place). Sits k q text out) e (sits-start k text out))
+
+pub begins-on : (p : Place) → p ≡ first → goesOn (p .next) ≡ true
+unfolding goesOn
+begins-on p e = ap (λ (q : Place). goesOn (q .next)) e
+
+-- written, and something comes next
+pub both : (written on g : Bool) → on ≡ g → written && on ≡ true → g ≡ true
+both true on g e h = sym e ∙ h
+both false on g e h = no h

@@ -1,16 +1,16 @@
 -- Where a program is in its input, and what a turn does. Definitions only, for either program: `of` says what one record says.
 use mathlib.Core.Path.{_≡_}
-use mathlib.Core.Bool.{Bool, true, false, cond}
-use mathlib.Core.List.{List, [], _∷_, _++_}
+use mathlib.Core.Bool.{Bool, true, false}
+use mathlib.Core.List.{List, [], _++_}
 use mathlib.Core.Option.{Option}
 use Prim.Native.Nat.{ℕ, _+_, _-_, _≤_, _<_}
 use lib.Dec.{eqb}
 use lib.ListN.{length, take, drop}
 use Rattle.model.specs.Calls.{Call, Kind, State, broken}
 use Rattle.trees.specs.Pieces.{Pieces}
-use Rattle.record.specs.Input.{Unended}
-use Rattle.replies.specs.Programs.{Keeps, longest}
-use Rattle.replies.specs.Runs.{Run}
+use Rattle.record.specs.Input.{Unended, records}
+use Rattle.replies.specs.Lines.{lines, state}
+use Rattle.replies.specs.Programs.{Fed, Keeps, longest}
 use Rattle.turns.specs.declared.Next.{Next}
 use Rattle.turns.specs.declared.Next.the-variants as next
 use Rattle.turns.specs.declared.Place.{Place}
@@ -46,44 +46,48 @@ pub record Sits (k : Kind) (p : Place) (text out : List ℕ) : Type 0 where
   pub reads : p .next ≡ next.Read → (p .end ≤ 133) × Unended (carried p text)
   pub works : p .next ≡ next.Work → length out < p .ready + longest (k .axes)
 
--- what is left of a run, by what comes next: the run from a state and the bytes that are carried, or nothing
-unfoldable pub Left : (k : Kind) (of : List ℕ → Option Call) → Next → State → (start : Bool) → List ℕ → (chunks : List (List ℕ)) (out : List ℕ) → Type 0
-Left k of next.Read a start s chunks out = Run k of a start s chunks out
-Left k of next.Work a start s chunks out = Run k of a start s chunks out
-Left k of next.Done a start s chunks out = (chunks ≡ []) × (out ≡ [])
-
--- Some bytes were answered, and a place was left: the bytes that are ready come before all that the rest of the run prints, and those after them are as before.
-pub record Digests (k : Kind) (of : List ℕ → Option Call) (a : State) (start : Bool) (s : List ℕ) (p : Place) (s' : Pieces) (text' out out' : List ℕ) : Type 0 where
-  pub state : State
-  pub keeps : Keeps k (p .held) s' state
-  pub goes-on : (chunks : List (List ℕ)) (more : List ℕ) → Left k of (p .next) state (p .start) (carried p text') chunks more → Run k of a start s chunks (take (p .ready) out' ++ more)
-  pub rest : drop (p .ready) out' ≡ drop (p .ready) out
-
--- the chunk that came, where the program reads; none at the end of the input
-unfoldable pub came : Next → (got end : ℕ) → List ℕ → List (List ℕ)
-came next.Read got end text = cond (eqb got 0) [] (take got (drop end text) ∷ [])
+-- the chunk that came: the new bytes behind what is carried, where the program reads
+unfoldable pub came : Next → (got end : ℕ) → List ℕ → List ℕ
+came next.Read got end text = take got (drop end text)
 came next.Work got end text = []
 came next.Done got end text = []
 
--- A turn was made from one place to another: the same of a run from the first place, to which a chunk came or not.
+-- what a turn has before it: the bytes that are carried, and the chunk that came
+abbrev pub given : Place → (got : ℕ) → List ℕ → List ℕ
+given p got text = carried p text ++ came (p .next) got (p .end) text
+
+-- the last bytes of an input were answered: the lines of their records are printed, and the state is that after them
+abbrev pub Finished : (k : Kind) (of : List ℕ → Option Call) (a : State) (start : Bool) (text : List ℕ) (a' : State) (printed : List ℕ) → Type 0
+Finished k of a start text a' printed = (printed ≡ lines k a (records of start text)) × (a' ≡ state k a (records of start text))
+
+-- The beginning of some bytes was answered, and a place was left: the rest of them is carried, as far as its records need it, and the bytes of `out` after the ready ones are as before.
+pub record Digests (k : Kind) (of : List ℕ → Option Call) (a : State) (start : Bool) (s : List ℕ) (p : Place) (s' : Pieces) (text' out out' : List ℕ) : Type 0 where
+  pub state : State
+  pub keeps : Keeps k (p .held) s' state
+  pub fed : Fed k of a start s state (p .start) (carried p text') (take (p .ready) out')
+  pub rest : drop (p .ready) out' ≡ drop (p .ready) out
+
+-- A turn was made from one place to another. Where something comes next, the beginning of what it had before it was answered, and the rest is carried; where nothing does, all of it was, as the
+-- end of the input. After the end nothing is done.
 pub record Works (k : Kind) (of : List ℕ → Option Call) (a : State) (p : Place) (got : ℕ) (text : List ℕ) (p' : Place) (s' : Pieces) (text' out out' : List ℕ) : Type 0 where
   pub state : State
   pub keeps : Keeps k (p' .held) s' state
-  pub goes-on : (chunks : List (List ℕ)) (more : List ℕ) → Left k of (p' .next) state (p' .start) (carried p' text') chunks more
-      → Left k of (p .next) a (p .start) (carried p text) (came (p .next) got (p .end) text ++ chunks) (take (p' .ready) out' ++ more)
+  pub goes-on : goesOn (p' .next) ≡ true → Fed k of a (p .start) (given p got text) state (p' .start) (carried p' text') (take (p' .ready) out')
+  pub ends : goesOn (p .next) ≡ true → goesOn (p' .next) ≡ false → Finished k of a (p .start) (given p got text) state (take (p' .ready) out')
+  pub over : goesOn (p .next) ≡ false → (state ≡ a) × (take (p' .ready) out' ≡ [])
   pub rest : drop (p' .ready) out' ≡ drop (p' .ready) out
 
--- From the very start of the input, with no tree: chunks were seen and bytes printed, and the program is at a place from which the run goes on. At its end the run is that
--- of the chunks.
-pub record Going (k : Kind) (of : List ℕ → Option Call) (p : Place) (s : Pieces) (text : List ℕ) : Type 0 where
-  pub seen : List (List ℕ)
+-- Turns from the very start of an input, with no tree: the chunks that came and the ready bytes, each joined in order, and the state, place, pieces and text after them. A turn is made while
+-- something comes next, and a read before it leaves what is carried.
+pub data Turns (k : Kind) (of : List ℕ → Option Call) : (input printed : List ℕ) → State → Place → Pieces → (text : List ℕ) → Type 0 where
+  begin : {s : Pieces} {text : List ℕ} → Keeps k false s broken → Turns k of [] [] broken first s text
+  turn : {input printed : List ℕ} {a : State} {p : Place} {s : Pieces} {text : List ℕ} {text₁ : List ℕ} {got : ℕ} {p' : Place} {s' : Pieces} {text' out out' : List ℕ}
+      → Turns k of input printed a p s text → goesOn (p .next) ≡ true → carried p text₁ ≡ carried p text → (w : Works k of a p got text₁ p' s' text' out out')
+      → Turns k of (input ++ came (p .next) got (p .end) text₁) (printed ++ take (p' .ready) out') (w .state) p' s' text'
+
+-- the pieces are those of a program after some such turns
+pub record Turned (k : Kind) (of : List ℕ → Option Call) (p : Place) (s : Pieces) (text : List ℕ) : Type 0 where
+  pub input : List ℕ
   pub printed : List ℕ
   pub state : State
-  pub keeps : Keeps k (p .held) s state
-  pub goes-on : (chunks : List (List ℕ)) (more : List ℕ) → Left k of (p .next) state (p .start) (carried p text) chunks more → Run k of broken true [] (seen ++ chunks) (printed ++ more)
-
--- The pieces are those of a program that has come to some place of such a run: after chunks that were seen, and bytes that were printed.
-pub record Ran (k : Kind) (of : List ℕ → Option Call) (s : Pieces) : Type 0 where
-  pub place : Place
-  pub text : List ℕ
-  pub going : Going k of place s text
+  pub turns : Turns k of input printed state p s text

@@ -40,7 +40,7 @@ same-length-6 : tie.Need-same-length-6
 same-length-6 c = search needs
 
 returns : tie.Need-returns
-returns c = (works-chunk (kind (c .before .before .before .before .before .before .before .before .before .before .before .before .before .before .before .before .before .before .before .before .before .before .before .before .before .before .before .before .args .deep)) (says (c .before .before .before .before .before .before .before .before .before .before .before .before .before .before .before .before .before .before .before .before .before .before .before .before .before .before .before .before .args .deep)) _ _ _ _ _ (c .before .before .before .before .before .before .before .before .before .before .before .before .before .before .before .before .before .before .before .before .enum-told2 .given .1) ((c .before .before .before .before .before .before .before .before .before .before .before .before .before .before .before .before .before .before .before .before .before .before .before .before .before .before .before .before .pre .0 .ordered)) (c .before .before .before .before .before .before .before .before .before .before .before .before .before .before .before .before .before .before .before .if1 .taken) _ _ _ _ (c .before .before .before .before .before .before .before .before .before .before .before .before .digest2 .ensures .0), (c .before .before .before .before .before .before .before .before .before .before .before .before .digest2 .ensures .1 .0, ends-chunk _ _ _ (c .before .before .before .before .before .before .before .before .before .before .before .before .before .before .before .before .before .before .before .before .enum-told2 .given .1) (c .before .before .before .before .before .before .before .before .before .before .before .before .before .before .before .before .before .before .before .if1 .taken) (c .before .before .before .before .before .before .before .before .before .before .before .before .digest2 .ensures .1 .1)))
+returns c = (works-chunk (kind (c .before .before .before .before .before .before .before .before .before .before .before .before .before .before .before .before .before .before .before .before .before .before .before .before .before .before .before .before .args .deep)) (says (c .before .before .before .before .before .before .before .before .before .before .before .before .before .before .before .before .before .before .before .before .before .before .before .before .before .before .before .before .args .deep)) _ _ _ _ _ (c .before .before .before .before .before .before .before .before .before .before .before .before .before .before .before .before .before .before .before .before .enum-told2 .given .1) ((c .before .before .before .before .before .before .before .before .before .before .before .before .before .before .before .before .before .before .before .before .before .before .before .before .before .before .before .before .pre .0 .ordered)) _ _ _ _ (c .before .before .before .before .before .before .before .before .before .before .before .before .digest2 .ensures .0) (c .before .before .before .before .before .before .before .before .before .before .before .before .digest2 .ensures .1 .1), (c .before .before .before .before .before .before .before .before .before .before .before .before .digest2 .ensures .1 .0, ends-chunk _ _ _ (c .before .before .before .before .before .before .before .before .before .before .before .before .before .before .before .before .before .before .before .before .enum-told2 .given .1) (c .before .before .before .before .before .before .before .before .before .before .before .before .before .before .before .before .before .before .before .if1 .taken) (c .before .before .before .before .before .before .before .before .before .before .before .before .digest2 .ensures .1 .1)))
 
 sub-finish : tie.Need-sub-finish
 sub-finish c = search needs
@@ -76,7 +76,7 @@ same-length-12 : tie.Need-same-length-12
 same-length-12 c = search needs
 
 returns-2 : tie.Need-returns-2
-returns-2 c = (works-on (kind (c .before .before .before .before .before .before .before .before .before .before .before .before .before .before .before .before .before .before .before .before .before .before .before .before .before .before .before .args .deep)) (says (c .before .before .before .before .before .before .before .before .before .before .before .before .before .before .before .before .before .before .before .before .before .before .before .before .before .before .before .args .deep)) _ _ _ _ _ (c .before .before .before .before .before .before .before .before .before .before .before .before .before .before .before .before .before .before .before .enum-told .given .1) _ _ _ _ (c .before .before .before .before .before .before .before .before .before .before .before .before .digest .ensures .0), (c .before .before .before .before .before .before .before .before .before .before .before .before .digest .ensures .1 .0, ends-work _ _ _ (c .before .before .before .before .before .before .before .before .before .before .before .before .before .before .before .before .before .before .before .enum-told .given .1) (c .before .before .before .before .before .before .before .before .before .before .before .before .digest .ensures .1 .1)))
+returns-2 c = (works-on (kind (c .before .before .before .before .before .before .before .before .before .before .before .before .before .before .before .before .before .before .before .before .before .before .before .before .before .before .before .args .deep)) (says (c .before .before .before .before .before .before .before .before .before .before .before .before .before .before .before .before .before .before .before .before .before .before .before .before .before .before .before .args .deep)) _ _ _ _ _ (c .before .before .before .before .before .before .before .before .before .before .before .before .before .before .before .before .before .before .before .enum-told .given .1) _ _ _ _ (c .before .before .before .before .before .before .before .before .before .before .before .before .digest .ensures .0) (c .before .before .before .before .before .before .before .before .before .before .before .before .digest .ensures .1 .1), (c .before .before .before .before .before .before .before .before .before .before .before .before .digest .ensures .1 .0, ends-work _ _ _ (c .before .before .before .before .before .before .before .before .before .before .before .before .before .before .before .before .before .before .before .enum-told .given .1) (c .before .before .before .before .before .before .before .before .before .before .before .before .digest .ensures .1 .1)))
 
 same-length-13 : tie.Need-same-length-13
 same-length-13 c = search needs
