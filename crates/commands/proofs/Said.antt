@@ -9,7 +9,7 @@ use lib.Ieee.{Float, binary64, nan, ofBits}
 use lib.ListN.{length, getD, take, drop}
 use Rattle.floats.proofs.Patterns.{zero-bits}
 use Rattle.tree.specs.Depths.{kind}
-use Rattle.record.specs.Commands.{callOf, floatsAfter, numbersOf, wholeAfter, wordOf}
+use Rattle.record.specs.Commands.{callOf, floatsAfter, wholeAfter, wordOf}
 use Rattle.record.specs.Read.{Reads, rest}
 use Rattle.record.specs.Text.{has}
 use Rattle.record.specs.declared.Word.{Word}
@@ -54,12 +54,12 @@ Right deep v n f =
 third-is : (deep : Bool) (a z : Float) → z ≡ cond deep a (ofBits binary64 0) → z ≡ third deep a
 third-is deep a z e = e ∙ ap (λ (o : Float). cond deep a o) zero-bits
 
-module _ (deep : Bool) (s : List ℕ) (e : ℕ) (w : Word) (axes : ℕ) (r : Whole) (before after : List Float) (within : e ≤ length s) (first : (k : ℕ) → k < e → getD s k 0 ≡ 44 → ⊥) (found : e < length s → getD s e 0 ≡ 44) (word : w ≡ wordOf (made deep) (take (e - 0) s)) (many : axes ≡ kind deep .axes) (six : length before ≡ 6) (read : floatsAfter axes w ≤ length before → Reads (numbersOf (floatsAfter axes w) (wholeAfter w) (rest (take (length s - e) (drop e s)))) r before after) where
+module _ (deep : Bool) (s : List ℕ) (e : ℕ) (w : Word) (axes : ℕ) (r : Whole) (before after : List Float) (within : e ≤ length s) (first : (k : ℕ) → k < e → getD s k 0 ≡ 44 → ⊥) (found : e < length s → getD s e 0 ≡ 44) (word : w ≡ wordOf (made deep) (take (e - 0) s)) (many : axes ≡ kind deep .axes) (six : length before ≡ 6) (read : Reads (floatsAfter axes w) (wholeAfter w) (rest (take (length s - e) (drop e s))) r before after) where
   room : floatsAfter (kind deep .axes) w ≤ length before
   room = omega (arith, six, floats-few (kind deep .axes) w (some-axes deep), few-axes deep)
 
-  have : floatsAfter (kind deep .axes) w ≤ length before → Reads (numbersOf (floatsAfter (kind deep .axes) w) (wholeAfter w) (rest (take (length s - e) (drop e s)))) r before after
-  have = subst (λ (a : ℕ). floatsAfter a w ≤ length before → Reads (numbersOf (floatsAfter a w) (wholeAfter w) (rest (take (length s - e) (drop e s)))) r before after) many read
+  have : Reads (floatsAfter (kind deep .axes) w) (wholeAfter w) (rest (take (length s - e) (drop e s))) r before after
+  have = subst (λ (a : ℕ). Reads (floatsAfter a w) (wholeAfter w) (rest (take (length s - e) (drop e s))) r before after) many read
 
   pub says-none : r ≡ whole.Not → none ≡ says deep s
   says-none er = said-not (made deep) (kind deep .axes) s e w r before after (plain deep) within first found word room have er

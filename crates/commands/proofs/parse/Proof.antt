@@ -64,7 +64,7 @@ enum-told c = search needs
 
 returns : tie.Need-returns
 unfolding callIn flattened
-returns c = (says-none (c .before .before .before .before .before .before .before .before .before .before .before .args .deep) _ _ _ _ _ _ _ (c .before .before .before .before .before .before .before .before .before .find .ensures .0) (c .before .before .before .before .before .before .before .before .before .find .ensures .1 .0) (c .before .before .before .before .before .before .before .before .before .find .ensures .1 .1) (c .before .before .before .before .before .before .before .first-word .ensures) (c .before .before .before .before .before .before .axes .ensures) refl (c .before .before .before .numbers-of .ensures .0) (c .enum-told .given .1), refl)
+returns c = (says-none (c .before .before .before .before .before .before .before .before .before .before .before .args .deep) _ _ _ _ _ _ _ (c .before .before .before .before .before .before .before .before .before .find .ensures .0) (c .before .before .before .before .before .before .before .before .before .find .ensures .1 .0) (c .before .before .before .before .before .before .before .before .before .find .ensures .1 .1) (c .before .before .before .before .before .before .before .first-word .ensures) (c .before .before .before .before .before .before .axes .ensures) refl (c .before .before .before .numbers-of .ensures) (c .enum-told .given .1), refl)
 
 array-read-pick : tie.Need-array-read-pick
 array-read-pick c = search needs
@@ -173,7 +173,7 @@ said : (c : lts.After-pick4 (find-reads.Asked, find-reads.Learnt, first-word-rea
     → ((deep : Bool) → Right deep v (c .before .before .before .before .before .m .given .0 .0) (λ l z w h d. f l z w h d (c .before .before .before .before .before .m .given .0 .0)))
     → c .before .before .before .before .before .before .before .before .before .before .before .before .first-word .result ≡ v → Meant (c .before .before .before .before .before .before .before .before .before .before .before .before .before .before .before .before .args .deep) (now (c .before .before .before .before .before .before .before .before .before .before .before .before .before .before .before .before .args .s)) (f (c .before .before .before .before .before .before .before .before .numbers-of .last .1 .1 .1 .0) (c .before .before .before .pick .result) (c .before .before .pick2 .result) (c .before .pick3 .result) (c .pick4 .result) (c .before .before .before .before .before .m .given .0 .0))
 said c v f g e =
-    says-some (c .before .before .before .before .before .before .before .before .before .before .before .before .before .before .before .before .args .deep) _ _ _ _ _ _ _ (c .before .before .before .before .before .before .before .before .before .before .before .before .before .before .find .ensures .0) (c .before .before .before .before .before .before .before .before .before .before .before .before .before .before .find .ensures .1 .0) (c .before .before .before .before .before .before .before .before .before .before .before .before .before .before .find .ensures .1 .1) (c .before .before .before .before .before .before .before .before .before .before .before .before .first-word .ensures) (c .before .before .before .before .before .before .before .before .before .before .before .axes .ensures) refl (c .before .before .before .before .before .before .before .before .numbers-of .ensures .0) v (c .before .before .before .before .before .m .given .0 .0) _ _ _ _ (λ l z w h d. f l z w h d (c .before .before .before .before .before .m .given .0 .0)) (c .before .before .before .before .before .before .before .before .numbers-of .kept .1 .1 .1 .0) (c .before .before .before .pick .ensures) (c .before .before .pick2 .ensures) (c .before .pick3 .ensures) (c .pick4 .ensures) (g (c .before .before .before .before .before .before .before .before .before .before .before .before .before .before .before .before .args .deep)) e (c .before .before .before .before .before .m .given .1)
+    says-some (c .before .before .before .before .before .before .before .before .before .before .before .before .before .before .before .before .args .deep) _ _ _ _ _ _ _ (c .before .before .before .before .before .before .before .before .before .before .before .before .before .before .find .ensures .0) (c .before .before .before .before .before .before .before .before .before .before .before .before .before .before .find .ensures .1 .0) (c .before .before .before .before .before .before .before .before .before .before .before .before .before .before .find .ensures .1 .1) (c .before .before .before .before .before .before .before .before .before .before .before .before .first-word .ensures) (c .before .before .before .before .before .before .before .before .before .before .before .axes .ensures) refl (c .before .before .before .before .before .before .before .before .numbers-of .ensures) v (c .before .before .before .before .before .m .given .0 .0) _ _ _ _ (λ l z w h d. f l z w h d (c .before .before .before .before .before .m .given .0 .0)) (c .before .before .before .before .before .before .before .before .numbers-of .kept .1 .1 .1 .0) (c .before .before .before .pick .ensures) (c .before .before .pick2 .ensures) (c .before .pick3 .ensures) (c .pick4 .ensures) (g (c .before .before .before .before .before .before .before .before .before .before .before .before .before .before .before .before .args .deep)) e (c .before .before .before .before .before .m .given .1)
 
 returns-2 : tie.Need-returns-2
 unfolding callIn callOf flattened floatsAfter zipWith
