@@ -26,7 +26,7 @@ unfoldable pub wholeIn : Whole → Option ℕ
 wholeIn (whole.Value n) = some n
 wholeIn whole.Not = none
 
--- the fields after the first, given what stands after the first: nothing, or a comma and the others
+-- the fields after the first, given what stands after the first: nothing, or a comma and the others. Its first byte is taken for the comma, whatever it is
 unfoldable pub rest : List ℕ → List (List ℕ)
 unfolding split
 rest [] = []
