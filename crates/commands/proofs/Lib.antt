@@ -1,2 +1,3 @@
 -- What is proved of the commands.
 pub mod Said
+pub mod Once

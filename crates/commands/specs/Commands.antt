@@ -1,8 +1,10 @@
 -- What a command says: document 01, "Each record becomes one command that carries its numbers." Definitions only; `deep` says whether places have a z.
 use Prim.Native.Nat.{ℕ}
-use mathlib.Core.Bool.{Bool, true, false}
+use mathlib.Core.Bool.{Bool, true, false, cond}
 use mathlib.Core.List.{List}
 use mathlib.Core.Option.{Option, none, some}
+use lib.Ieee.{Float}
+use Rattle.floats.specs.Values.{plusZero}
 use Rattle.model.specs.Calls as calls
 use Rattle.tree.specs.Depths.{coords, kind, region}
 use Rattle.record.specs.Commands.{understood, word-oct, word-quad}
@@ -26,6 +28,23 @@ callIn deep (Box x y z width height depth) = some (calls.Ask (calls.Box (region 
 callIn deep Len = some (calls.Ask calls.Len)
 callIn deep Clear = some calls.Clear
 callIn deep Bad = none
+
+-- a number of the third axis, which is +0 where places have no z
+abbrev pub third : (deep : Bool) → Float → Float
+third deep z = cond deep z plusZero
+
+-- a command with every z and depth so
+unfoldable pub flattened : (deep : Bool) → Command → Command
+flattened deep (Create x y z width height depth capacity) = Create x y (third deep z) width height (third deep depth) capacity
+flattened deep (Insert x y z n) = Insert x y (third deep z) n
+flattened deep (Delete x y z n) = Delete x y (third deep z) n
+flattened deep (Contains x y z n) = Contains x y (third deep z) n
+flattened deep (Range x y z radius) = Range x y (third deep z) radius
+flattened deep (Knn x y z k) = Knn x y (third deep z) k
+flattened deep (Box x y z width height depth) = Box x y (third deep z) width height (third deep depth)
+flattened deep Len = Len
+flattened deep Clear = Clear
+flattened deep Bad = Bad
 
 -- what a record says to a program
 abbrev pub says : (deep : Bool) → List ℕ → Option calls.Call

@@ -2,7 +2,7 @@
 ghost use mathlib.Core.Path.{_≡_};
 ghost use mathlib.Core.Bool.{cond};
 ghost use Rattle.record.specs.Commands.{wordOf};
-ghost use Rattle.commands.specs.Commands.{callIn, made, says};
+ghost use Rattle.commands.specs.Commands.{callIn, flattened, made, says};
 use fields::find;
 use fields::numbers_of;
 use fields::word_of;
@@ -43,6 +43,7 @@ fn pick(deep: bool, a: f64, b: f64) -> f64
 // The command of a record, which is given without its line end.
 pub fn parse(deep: bool, s: &[u8]) -> Command
     ensures { λ r. ⌜ callIn deep r ≡ says deep (now (s .entry)) ⌝ }
+    ensures flat { λ r. ⌜ flattened deep r ≡ r ⌝ }
 {
     let e = find(s, b',');
     let word = first_word(deep, &s[0..e]);

@@ -1,14 +1,12 @@
 // The fields of a record: its word, and the numbers after it.
 ghost use mathlib.Core.Path.{_≡_};
-ghost use mathlib.Core.List.{List, []};
+ghost use mathlib.Core.List.{[]};
 ghost use Prim.Native.Nat.{ℕ, _<_, _≤_};
 ghost use lib.ListN.{length, getD};
-ghost use lib.Ieee.{Float};
 ghost use Rattle.record.specs.Text.{split};
 ghost use Rattle.record.specs.Numbers.{numberOf};
 ghost use Rattle.record.specs.Commands.{wordOf, floatsAfter, wholeAfter, numbersOf};
-ghost use Rattle.record.specs.Read.{floatIn, rest, Reads};
-ghost use Rattle.record.specs.declared.numbers.Whole.the-variants.{Not};
+ghost use Rattle.record.specs.Read.{floatIn, rest, wholeAmong, wholeIn, Reads};
 use record::Word;
 use record::numbers::Number;
 use record::numbers::Whole;
@@ -120,7 +118,7 @@ fn first_float(t: &[u8]) -> Number
 
 // The whole number of what stands after the floats, where one is due, and 0 where nothing is. A comma is no digit, so nothing looks for another field.
 fn last_whole(s: &[u8], due: bool) -> Whole
-    ensures { λ r. ⌜ ((l : List Float) → Reads (numbersOf 0 due (rest (now (s .entry)))) r l l) ⌝ }
+    ensures { λ r. ⌜ wholeIn r ≡ wholeAmong (numbersOf 0 due (rest (now (s .entry)))) ⌝ }
 {
     if due {
         if s.len() == 0 {
@@ -134,12 +132,10 @@ fn last_whole(s: &[u8], due: bool) -> Whole
     Whole::Value(0)
 }
 
-// Reads the numbers of a word: the floats to the front of `numbers`, and the whole number or 0. What stands after the word is s: nothing, or a comma and the
-// other fields. Where they are not understood some floats may have been written, so `numbers` is an array that nobody else sees. Where it is too short for the
-// floats, nothing is read.
+// Reads the numbers of a word: the floats to the front of `numbers`, up to the first field that is none, and the whole number or 0. What stands after the word
+// is s: nothing, or a comma and the other fields. Where `numbers` is too short for the word's floats, nothing is read.
 pub fn numbers_of(s: &[u8], word: Word, axes: u8, numbers: &mut [f64]) -> Whole
-    ensures { λ r. ⌜ (floatsAfter axes word ≤ length (now (numbers .entry)) → Reads (numbersOf (floatsAfter axes word) (wholeAfter word) (rest (now (s .entry)))) r (now (numbers .entry)) (now (numbers .exit))) ⌝ }
-    ensures short { λ r. ⌜ (length (now (numbers .entry)) < floatsAfter axes word → (r ≡ Not) × (now (numbers .exit) ≡ now (numbers .entry))) ⌝ }
+    ensures { λ r. ⌜ Reads (floatsAfter axes word) (wholeAfter word) (rest (now (s .entry))) r (now (numbers .entry)) (now (numbers .exit)) ⌝ }
 {
     let count = floats_after(word, axes);
     let due = whole_after(word);

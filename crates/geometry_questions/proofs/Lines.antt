@@ -1,6 +1,6 @@
 -- Laws of a line: its word, its numbers, and what is answered. Assumes nothing.
 use Prim.Native.Nat.{ℕ, _-_, _/_, _%_, _≤_, _<_}
-use mathlib.Core.Path.{_≡_, refl, sym, ap, ap₂, _∙_, subst}
+use mathlib.Core.Path.{_≡_, refl, sym, ap, _∙_, subst}
 use mathlib.Core.Bool.{Bool, true, false}
 use mathlib.Core.List.{List, []}
 use mathlib.Core.Option.{Option, none, some}
@@ -17,6 +17,7 @@ use Rattle.record.specs.Read.{Reads, rest}
 use Rattle.record.specs.declared.numbers.Whole.{Whole}
 use Rattle.record.specs.declared.numbers.Whole.the-variants as whole
 use Rattle.record.proofs.Parts.{rest-is, split-rest}
+use Rattle.record.proofs.Reading.{array-read, numbers-not, numbers-read}
 use Rattle.geometry_answers.specs.Shown.{Said, unknown}
 use Rattle.geometry_questions.specs.Asked.{places, one, two, pair2, three, pair3, parts, answer, told, asked}
 
@@ -35,16 +36,6 @@ unfolding told
 told-by child w s e =
     subst (λ (t : Bool). by-numbers t (length s / 17) w (numbersOf (length s / 17) t (rest s)) ≡ told w s) (sym e)
     (by-cases (ltb 0 (length s % 17)) (length s / 17) w (numbersOf (length s / 17) (ltb 0 (length s % 17)) (rest s)))
-
-read-value : (child : Bool) (n : ℕ) (w : List ℕ) (o : Option Numbers) (k : ℕ) (v : List Float) → Reads o (whole.Value k) places v → answer child n w v k ≡ by-numbers child n w o
-unfolding Reads by-numbers
-read-value child n w none k v g = absurd (let z : _≡_ {A = ℕ} 0 1 = cc in omega arith)
-read-value child n w (some m) k v g = let p : k ≡ m .whole = (let q = g .0 in cc) in ap₂ (λ (l : List Float) (j : ℕ). answer child n w l j) (g .1) p
-
-read-not : (child : Bool) (n : ℕ) (w : List ℕ) (o : Option Numbers) (v : List Float) → Reads o whole.Not places v → unknown ≡ by-numbers child n w o
-unfolding Reads by-numbers
-read-not child n w none v g = refl
-read-not child n w (some m) v g = absurd (let q = g .0 in let z : _≡_ {A = ℕ} 0 1 = cc in omega arith)
 
 -- no question has so many numbers
 none-asks : (child : Bool) (n : ℕ) (w : List ℕ) (v : List Float) (i : ℕ) → ((k : ℕ) → 1 ≤ k → k ≤ 12 → eqb n k ≡ false) → unknown ≡ answer child n w v i
@@ -71,19 +62,33 @@ module _ (s : List ℕ) (e : ℕ) (within : e ≤ length s) (first : (k : ℕ) �
       ∙ ap (λ (m : ℕ). by-numbers child (m / 17) (take e s) (numbersOf (m / 17) child (rest (drop e s)))) (sym behind)
       ∙ told-by child (take e s) (drop e s) (h ∙ ap (λ (m : ℕ). ltb 0 (m % 17)) (sym behind)) ∙ cut
 
-  have : (child : Bool) (count : ℕ) (r : Whole) (v : List Float) → Reads (numbersOf count child (rest (take (length s - e) (drop e s)))) r places v → count ≡ (length s - e) / 17 → Reads (numbersOf ((length s - e) / 17) child (rest (drop e s))) r places v
-  have child count r v g c = subst (λ (o : Option Numbers). Reads o r places v) (ap₂ (λ (m : ℕ) (t : List ℕ). numbersOf m child (rest t)) c (rest-is s e)) g
+  have : (child : Bool) (count : ℕ) (r k : Whole) (v : List Float) → Reads count child (rest (take (length s - e) (drop e s))) r places v → count ≡ (length s - e) / 17 → r ≡ k → Reads ((length s - e) / 17) child (rest (drop e s)) k places v
+  have child count r k v g c q =
+      subst (λ (t : Whole). Reads ((length s - e) / 17) child (rest (drop e s)) t places v) q
+      (subst (λ (t : List ℕ). Reads ((length s - e) / 17) child (rest t) r places v) (rest-is s e) (subst (λ (m : ℕ). Reads m child (rest (take (length s - e) (drop e s))) r places v) c g))
 
-  pub ask-value : (child : Bool) (count : ℕ) (r : Whole) (v : List Float) (k : ℕ) → child ≡ ltb 0 ((length s - e) % 17) → Reads (numbersOf count child (rest (take (length s - e) (drop e s)))) r places v → count ≡ (length s - e) / 17 → r ≡ whole.Value k → answer child ((length s - e) / 17) (take (e - 0) s) v k ≡ asked s
-  ask-value child count r v k h g c q =
-      read-value child ((length s - e) / 17) (take (e - 0) s) (numbersOf ((length s - e) / 17) child (rest (drop e s))) k v
-      (subst (λ (t : Whole). Reads (numbersOf ((length s - e) / 17) child (rest (drop e s))) t places v) q (have child count r v g c))
-      ∙ heard child h
+  pub ask-value : (child : Bool) (count : ℕ) (r : Whole) (v : List Float) (k : ℕ) → child ≡ ltb 0 ((length s - e) % 17) → Reads count child (rest (take (length s - e) (drop e s))) r places v → count ≤ 12 → count ≡ (length s - e) / 17 → r ≡ whole.Value k → answer child ((length s - e) / 17) (take (e - 0) s) v k ≡ asked s
+  unfolding by-numbers
+  ask-value child count r v k h g room c q =
+      ap (λ (l : List Float). answer child n (take (e - 0) s) l k) (array-read n child fs places v small (whole.Value k) read)
+      ∙ ap (by-numbers child n (take (e - 0) s)) (sym (numbers-read n child fs places v small k read)) ∙ heard child h
+    where
+      n : ℕ
+      n = (length s - e) / 17
 
-  pub ask-not : (child : Bool) (count : ℕ) (r : Whole) (v : List Float) → child ≡ ltb 0 ((length s - e) % 17) → Reads (numbersOf count child (rest (take (length s - e) (drop e s)))) r places v → count ≡ (length s - e) / 17 → r ≡ whole.Not → unknown ≡ asked s
-  ask-not child count r v h g c q =
-      read-not child ((length s - e) / 17) (take (e - 0) s) (numbersOf ((length s - e) / 17) child (rest (drop e s))) v
-      (subst (λ (t : Whole). Reads (numbersOf ((length s - e) / 17) child (rest (drop e s))) t places v) q (have child count r v g c))
+      fs : List (List ℕ)
+      fs = rest (drop e s)
+
+      small : n ≤ 12
+      small = omega (arith, c, room)
+
+      read : Reads n child fs (whole.Value k) places v
+      read = have child count r (whole.Value k) v g c q
+
+  pub ask-not : (child : Bool) (count : ℕ) (r : Whole) (v : List Float) → child ≡ ltb 0 ((length s - e) % 17) → Reads count child (rest (take (length s - e) (drop e s))) r places v → count ≤ 12 → count ≡ (length s - e) / 17 → r ≡ whole.Not → unknown ≡ asked s
+  unfolding by-numbers
+  ask-not child count r v h g room c q =
+      ap (by-numbers child ((length s - e) / 17) (take (e - 0) s)) (sym (numbers-not ((length s - e) / 17) child (rest (drop e s)) places v (omega (arith, c, room)) (have child count r whole.Not v g c q)))
       ∙ heard child h
 
   pub ask-none : ((k : ℕ) → 1 ≤ k → k ≤ 12 → (length s - e) / 17 ≡ k → ⊥) → unknown ≡ asked s

@@ -31,7 +31,7 @@ spread zero P f (a ∷ l) e = absurd (omega arith)
 spread (suc n) P f [] e = absurd (omega arith)
 spread {A} (suc n) P f (a ∷ l) e = spread n (λ (m : List A). P (a ∷ m)) (f a) l (omega arith)
 
-module _ (made : List ℕ) (axes : ℕ) (s : List ℕ) (e : ℕ) (w : Word) (r : Whole) (before after : List Float) (plain : has 34 made ≡ false) (within : e ≤ length s) (first : (k : ℕ) → k < e → getD s k 0 ≡ 44 → ⊥) (found : e < length s → getD s e 0 ≡ 44) (word : w ≡ wordOf made (take (e - 0) s)) (room : floatsAfter axes w ≤ length before) (read : floatsAfter axes w ≤ length before → Reads (numbersOf (floatsAfter axes w) (wholeAfter w) (rest (take (length s - e) (drop e s)))) r before after) where
+module _ (made : List ℕ) (axes : ℕ) (s : List ℕ) (e : ℕ) (w : Word) (r : Whole) (before after : List Float) (plain : has 34 made ≡ false) (within : e ≤ length s) (first : (k : ℕ) → k < e → getD s k 0 ≡ 44 → ⊥) (found : e < length s → getD s e 0 ≡ 44) (word : w ≡ wordOf made (take (e - 0) s)) (room : floatsAfter axes w ≤ length before) (read : Reads (floatsAfter axes w) (wholeAfter w) (rest (take (length s - e) (drop e s))) r before after) where
   by-numbers : (o : Option Numbers) → Option Call
   by-numbers none = none
   by-numbers (some m) = callOf axes w m
@@ -51,19 +51,20 @@ module _ (made : List ℕ) (axes : ℕ) (s : List ℕ) (e : ℕ) (w : Word) (r :
       ∙ ap (λ (v : Word). elim (numbersOf (floatsAfter axes v) (wholeAfter v) (rest (drop e s))) as (λ z. Option Call) [ none ↦ none | some m ↦ callOf axes v m ]) (word ∙ ap (λ (j : ℕ). wordOf made (take j s)) (sub-zero e))
       ∙ sym (understood-cut made axes s e plain within first found)
 
-  have : Reads fields r before after
-  unfolding fields
-  have = subst (λ (t : List ℕ). Reads (numbersOf (floatsAfter axes w) (wholeAfter w) (rest t)) r before after) (rest-is s e) (read room)
+  have : (k : Whole) → r ≡ k → Reads (floatsAfter axes w) (wholeAfter w) (rest (drop e s)) k before after
+  have k er =
+      subst (λ (q : Whole). Reads (floatsAfter axes w) (wholeAfter w) (rest (drop e s)) q before after) er
+      (subst (λ (t : List ℕ). Reads (floatsAfter axes w) (wholeAfter w) (rest t) r before after) (rest-is s e) read)
 
   pub said-value : (v : Word) (k : ℕ) → w ≡ v → r ≡ whole.Value k → callOf axes v (record { floats = take (floatsAfter axes v) after; whole = k }) ≡ understood made axes s
   unfolding by-numbers fields
   said-value v k ev er =
       subst (λ (z : Word). callOf axes z (record { floats = take (floatsAfter axes z) after; whole = k }) ≡ understood made axes s) ev
-      (sym (ap by-numbers (numbers-value (floatsAfter axes w) (wholeAfter w) (rest (drop e s)) k before after room (subst (λ (q : Whole). Reads fields q before after) er have))) ∙ is)
+      (sym (ap by-numbers (numbers-value (floatsAfter axes w) (wholeAfter w) (rest (drop e s)) before after room k (have (whole.Value k) er))) ∙ is)
 
   pub said-not : r ≡ whole.Not → none ≡ understood made axes s
   unfolding by-numbers fields
-  said-not er = sym (ap by-numbers (numbers-not (floatsAfter axes w) (wholeAfter w) (rest (drop e s)) before after (subst (λ (q : Whole). Reads fields q before after) er have))) ∙ is
+  said-not er = sym (ap by-numbers (numbers-not (floatsAfter axes w) (wholeAfter w) (rest (drop e s)) before after room (have whole.Not er))) ∙ is
 
 -- an array with two floats for each axis has room for every word's
 pub floats-few : (axes : ℕ) (w : Word) → 1 ≤ axes → floatsAfter axes w ≤ 2 * axes

@@ -12,13 +12,13 @@ use lib.Seq.{sets, drop-drop, getD-take, length-take-le, take-all}
 use lib.Dec.{T, eqb}
 use lib.Ieee.{Float, binary64, ofBits}
 use lib.Ieee.Bits.{ofBits-fits}
-use borrow.Author.Tests.{eq-eqb, eqb-true, eqb-false, le-ltb}
+use borrow.Author.Tests.{eq-eqb, eqb-true, eqb-false, le-leb, le-ltb, lt-leb}
 use Rattle.floats.proofs.Theorems.{F64}
 use Rattle.model.specs.Soundness.{All}
 use Rattle.record.specs.Text.{split, has}
 use Rattle.record.specs.Numbers.{digit, digits, numberOf, value, wholeOf}
 use Rattle.record.specs.Commands.{Numbers, numbersOf}
-use Rattle.record.specs.Read.{floatIn, wholeIn, rest, Reads}
+use Rattle.record.specs.Read.{floatIn, wholeIn, readUp, readable, rest, wholeAmong, Reads}
 use Rattle.record.specs.declared.numbers.Number.{Number}
 use Rattle.record.specs.declared.numbers.Number.the-variants as number
 use Rattle.record.specs.declared.numbers.Whole.{Whole}
@@ -125,28 +125,28 @@ no e = absurd (subst T (sym e) tt)
 yes : {A : Type 0} → true ≡ false → A
 yes e = absurd (subst T e tt)
 
-pub last-missing : (due : Bool) (s : List ℕ) → due ≡ true → length s ≡ 0 → (l : List Float) → Reads (numbersOf 0 due (rest s)) whole.Not l l
-unfolding Reads numbersOf rest
-last-missing true [] e h l = refl
-last-missing true (b ∷ s) e h l = absurd (omega arith)
-last-missing false s e h l = no e
+pub last-missing : (due : Bool) (s : List ℕ) → due ≡ true → length s ≡ 0 → wholeIn whole.Not ≡ wholeAmong (numbersOf 0 due (rest s))
+unfolding wholeIn wholeAmong numbersOf rest
+last-missing true [] e h = refl
+last-missing true (b ∷ s) e h = absurd (omega arith)
+last-missing false s e h = no e
 
 numbers-more : (ps : List (List ℕ)) → (ps ≡ [] → ⊥) → none ≡ numbersOf 0 false ps
 unfolding numbersOf
 numbers-more [] h = absurd (h refl)
 numbers-more (p ∷ ps) h = refl
 
-pub last-more : (due : Bool) (s : List ℕ) → due ≡ false → 0 < length s → (l : List Float) → Reads (numbersOf 0 due (rest s)) whole.Not l l
-unfolding Reads rest
-last-more true s e h l = yes e
-last-more false [] e h l = absurd (not-suc-le-zero h)
-last-more false (b ∷ s) e h l = subst (λ (o : Option Numbers). Reads o whole.Not l l) (numbers-more (split 44 s) (split-some 44 s)) refl
+pub last-more : (due : Bool) (s : List ℕ) → due ≡ false → 0 < length s → wholeIn whole.Not ≡ wholeAmong (numbersOf 0 due (rest s))
+unfolding wholeIn wholeAmong rest
+last-more true s e h = yes e
+last-more false [] e h = absurd (not-suc-le-zero h)
+last-more false (b ∷ s) e h = ap wholeAmong (numbers-more (split 44 s) (split-some 44 s))
 
-pub last-end : (due : Bool) (s : List ℕ) → due ≡ false → length s ≤ 0 → (l : List Float) → Reads (numbersOf 0 due (rest s)) (whole.Value 0) l l
-unfolding Reads numbersOf rest
-last-end true s e h l = yes e
-last-end false [] e h l = (refl, refl)
-last-end false (b ∷ s) e h l = absurd (not-suc-le-zero h)
+pub last-end : (due : Bool) (s : List ℕ) → due ≡ false → length s ≤ 0 → wholeIn (whole.Value 0) ≡ wholeAmong (numbersOf 0 due (rest s))
+unfolding wholeIn wholeAmong numbersOf rest
+last-end true s e h = yes e
+last-end false [] e h = refl
+last-end false (b ∷ s) e h = absurd (not-suc-le-zero h)
 
 numbers-two : (p : List ℕ) (ps : List (List ℕ)) → (ps ≡ [] → ⊥) → none ≡ numbersOf 0 true (p ∷ ps)
 unfolding numbersOf
@@ -166,10 +166,10 @@ numbers-one p = go (wholeOf p)
     go none = refl
     go (some n) = refl
 
-whole-reads : (r : Whole) (l : List Float) → Reads (whole-only (wholeIn r)) r l l
-unfolding Reads whole-only wholeIn
-whole-reads (whole.Value n) l = (refl, refl)
-whole-reads whole.Not l = refl
+among-only : (o : Option ℕ) → o ≡ wholeAmong (whole-only o)
+unfolding wholeAmong whole-only
+among-only none = refl
+among-only (some n) = refl
 
 -- a comma is no digit, so what has one is no number
 whole-last : (t : List ℕ) (r : Whole) → wholeIn r ≡ wholeOf t → whole-only (wholeIn r) ≡ numbersOf 0 true (split 44 t)
@@ -183,46 +183,23 @@ whole-last t r e = go (cut t)
         ∙ numbers-two (take (c .e) t) (split 44 (drop (c .e + 1) t)) (split-some 44 (drop (c .e + 1) t)) ∙ ap (numbersOf 0 true) (sym (split-found 44 t (c .e) l (c .before) (c .found l))))
         (λ l. ap whole-only e ∙ numbers-one t ∙ ap (numbersOf 0 true) (sym (split-none 44 t (c .e) l (c .before))))
 
-pub last-is : (due : Bool) (s : List ℕ) (r : Whole) → due ≡ true → (length s ≡ 0 → ⊥) → wholeIn r ≡ wholeOf (take (length s - 1) (drop 1 s)) → (l : List Float) → Reads (numbersOf 0 due (rest s)) r l l
+pub last-is : (due : Bool) (s : List ℕ) (r : Whole) → due ≡ true → (length s ≡ 0 → ⊥) → wholeIn r ≡ wholeOf (take (length s - 1) (drop 1 s)) → wholeIn r ≡ wholeAmong (numbersOf 0 due (rest s))
 unfolding rest
-last-is false s r d h e l = no d
-last-is true [] r d h e l = absurd (h refl)
-last-is true (b ∷ s) r d h e l = subst (λ (o : Option Numbers). Reads o r l l) (whole-last s r (e ∙ ap wholeOf (rest-is (b ∷ s) 1))) (whole-reads r l)
+last-is false s r d h e = no d
+last-is true [] r d h e = absurd (h refl)
+last-is true (b ∷ s) r d h e = among-only (wholeIn r) ∙ ap wholeAmong (whole-last s r (e ∙ ap wholeOf (rest-is (b ∷ s) 1)))
 
 -- ---- floats one after the other
-
--- what reading leaves from place k on
-pub Goes : ℕ → Option Numbers → Whole → (now after : List Float) → Type 0
-Goes k none r now after = r ≡ whole.Not
-Goes k (some m) r now after = (r ≡ whole.Value (m .whole)) × (after ≡ sets now k (m .floats))
-
-goes-reads : (o : Option Numbers) (r : Whole) (now after : List Float) → Goes 0 o r now after → Reads o r now after
-unfolding Goes Reads
-goes-reads none r now after g = g
-goes-reads (some m) r now after g = g
-
--- no floats are left
-goes-last : (k : ℕ) (due : Bool) (fs : List (List ℕ)) (r : Whole) (now : List Float) → Reads (numbersOf 0 due fs) r now now → Goes k (numbersOf 0 due fs) r now now
-unfolding Goes Reads numbersOf whole-only
-goes-last k false [] r now g = (g .0, refl)
-goes-last k false (f ∷ fs) r now g = g
-goes-last k true [] r now g = g
-goes-last k true (f ∷ []) r now g = subst (λ (o : Option Numbers). Goes k o r now now) (numbers-one f) (go (wholeOf f) (subst (λ (o : Option Numbers). Reads o r now now) (sym (numbers-one f)) g))
-  where
-    go : (o : Option ℕ) → Reads (whole-only o) r now now → Goes k (whole-only o) r now now
-    go none g = g
-    go (some n) g = (g .0, refl)
-goes-last k true (f ∷ h ∷ fs) r now g = g
 
 -- one float more in front
 unfoldable pub more : Float → Option Numbers → Option Numbers
 more x none = none
 more x (some m) = some (record { floats = x ∷ m .floats; whole = m .whole })
 
-goes-more : (k : ℕ) (x : Float) (o : Option Numbers) (r : Whole) (now after : List Float) → Goes (k + 1) o r (set now k x) after → Goes k (more x o) r now after
-unfolding Goes more
-goes-more k x none r now after g = g
-goes-more k x (some m) r now after g = (g .0, g .1 ∙ ap (λ (j : ℕ). sets (set now k x) j (m .floats)) (add-one k))
+among-more : (x : Float) (o : Option Numbers) → wholeAmong o ≡ wholeAmong (more x o)
+unfolding wholeAmong more
+among-more x none = refl
+among-more x (some m) = refl
 
 pub numbers-step : (n : ℕ) (due : Bool) (f : List ℕ) (fs : List (List ℕ)) (x : Float) → numberOf f ≡ some x → more x (numbersOf n due fs) ≡ numbersOf (suc n) due (f ∷ fs)
 unfolding numbersOf more
@@ -241,6 +218,23 @@ unfolding numbersOf
 numbers-none zero due h = absurd (not-suc-le-zero h)
 numbers-none (suc n) due h = refl
 
+up-step : (n : ℕ) (f : List ℕ) (fs : List (List ℕ)) (x : Float) → numberOf f ≡ some x → x ∷ readUp n fs ≡ readUp (suc n) (f ∷ fs)
+unfolding readUp
+up-step n f fs x e = rw (e, readUp)
+
+up-bad : (n : ℕ) (f : List ℕ) (fs : List (List ℕ)) → numberOf f ≡ none → [] ≡ readUp (suc n) (f ∷ fs)
+unfolding readUp
+up-bad n f fs e = rw (e, readUp)
+
+up-none : (n : ℕ) → [] ≡ readUp n []
+unfolding readUp
+up-none zero = refl
+up-none (suc n) = refl
+
+up-zero : (fs : List (List ℕ)) → [] ≡ readUp 0 fs
+unfolding readUp
+up-zero fs = refl
+
 -- ---- the fields from a comma on
 
 -- a float that was read has 16 bytes
@@ -256,22 +250,24 @@ fields-room s at x h e = go (cut (drop (at + 1) s))
     go : Cut (drop (at + 1) s) → at + 17 ≤ length s
     go c = omega (arith, sixteen (drop (at + 1) s) c x e, c .within, length-drop (at + 1) s)
 
-fields-step : (n : ℕ) (due : Bool) (s : List ℕ) (at : ℕ) (x : Float) → at < length s → numberOf (getD (split 44 (drop (at + 1) s)) 0 []) ≡ some x
-    → more x (numbersOf n due (rest (drop (at + 17) s))) ≡ numbersOf (suc n) due (rest (drop at s))
-fields-step n due s at x h e = go (cut (drop (at + 1) s))
-  where
-    go : Cut (drop (at + 1) s) → more x (numbersOf n due (rest (drop (at + 17) s))) ≡ numbersOf (suc n) due (rest (drop at s))
-    go c =
-        ap (λ (u : List ℕ). more x (numbersOf n due (rest u)))
-        (ap (λ (k : ℕ). drop k s) {x = at + 17} {y = at + 1 + c .e} (omega (arith, sixteen (drop (at + 1) s) c x e)) ∙ sym (drop-drop (c .e) (at + 1) s))
-        ∙ numbers-step n due (getD (split 44 (drop (at + 1) s)) 0 []) (rest (drop (c .e) (drop (at + 1) s))) x e
-        ∙ ap (numbersOf (suc n) due) (fields (drop (at + 1) s) c ∙ sym (rest-drop s at h))
+-- the first field of what stands after index `at`
+abbrev first : List ℕ → ℕ → List ℕ
+first s at = getD (split 44 (drop (at + 1) s)) 0 []
 
-fields-bad : (n : ℕ) (due : Bool) (s : List ℕ) (at : ℕ) → at < length s → numberOf (getD (split 44 (drop (at + 1) s)) 0 []) ≡ none → none ≡ numbersOf (suc n) due (rest (drop at s))
-fields-bad n due s at h e = go (cut (drop (at + 1) s))
+fields-step : (s : List ℕ) (at : ℕ) (x : Float) → at < length s → numberOf (first s at) ≡ some x → first s at ∷ rest (drop (at + 17) s) ≡ rest (drop at s)
+fields-step s at x h e = go (cut (drop (at + 1) s))
   where
-    go : Cut (drop (at + 1) s) → none ≡ numbersOf (suc n) due (rest (drop at s))
-    go c = numbers-bad n due (getD (split 44 (drop (at + 1) s)) 0 []) (rest (drop (c .e) (drop (at + 1) s))) e ∙ ap (numbersOf (suc n) due) (fields (drop (at + 1) s) c ∙ sym (rest-drop s at h))
+    go : Cut (drop (at + 1) s) → first s at ∷ rest (drop (at + 17) s) ≡ rest (drop at s)
+    go c =
+        ap (λ (u : List ℕ). first s at ∷ rest u)
+        (ap (λ (k : ℕ). drop k s) {x = at + 17} {y = at + 1 + c .e} (omega (arith, sixteen (drop (at + 1) s) c x e)) ∙ sym (drop-drop (c .e) (at + 1) s))
+        ∙ fields (drop (at + 1) s) c ∙ sym (rest-drop s at h)
+
+fields-some : (s : List ℕ) (at : ℕ) → at < length s → (P : List (List ℕ) → Type 0) → ((fs : List (List ℕ)) → P (first s at ∷ fs)) → P (rest (drop at s))
+fields-some s at h P f = go (cut (drop (at + 1) s))
+  where
+    go : Cut (drop (at + 1) s) → P (rest (drop at s))
+    go c = subst P (fields (drop (at + 1) s) c ∙ sym (rest-drop s at h)) (f (rest (drop (c .e) (drop (at + 1) s))))
 
 -- what the code has read of the first field
 was-float : (s : List ℕ) (k : ℕ) (f : Number) (x : Float) → floatIn f ≡ numberOf (getD (split 44 (take (length s - k) (drop k s))) 0 []) → f ≡ number.Value x
@@ -287,20 +283,35 @@ pub float-room : (s : List ℕ) (at : ℕ) (f : Number) (x : Float) → at < len
 float-room s at f x h e p = fields-room s at x h (was-float s (at + 1) f x e p)
 
 -- ---- the loop over the floats
+
+readable-all : (room n : ℕ) (fs : List (List ℕ)) → n ≤ room → fs ≡ readable room n fs
+unfolding readable
+readable-all room n fs h = simp (le-leb n room h)
+
+-- the array is too short
+pub reads-short : (n : ℕ) (due : Bool) (fs : List (List ℕ)) (before : List Float) → length before < n → Reads n due fs whole.Not before before
+unfolding readable wholeIn wholeAmong
+reads-short n due fs before h = record { answer = ap wholeAmong (numbers-none n due (omega arith) ∙ ap (numbersOf n due) empty); array = ap (sets before 0) (up-none n ∙ ap (readUp n) empty) }
+  where
+    empty : [] ≡ readable (length before) n fs
+    empty = simp (lt-leb n (length before) h)
+
 module _ (count : ℕ) (due : Bool) (s : List ℕ) (start : List Float) where
-  -- i floats are read, up to index `at`: whatever reading the others leaves, all is read
+  -- i floats are read, up to index `at`: reading the others from there is reading all
   pub record Filling (now : List Float) (i at : ℕ) : Type 0 where
     pub few : i ≤ count
     pub within : at ≤ length s
     pub same : length now ≡ length start
-    pub left : (r : Whole) (after : List Float) → Goes i (numbersOf (count - i) due (rest (drop at s))) r now after → Reads (numbersOf count due (rest s)) r start after
+    pub answer : wholeAmong (numbersOf (count - i) due (rest (drop at s))) ≡ wholeAmong (numbersOf count due (rest s))
+    pub array : sets now i (readUp (count - i) (rest (drop at s))) ≡ sets start 0 (readUp count (rest s))
 
   pub filling-start : Filling start 0 0
   filling-start = record {
     few = omega arith;
     within = omega arith;
     same = refl;
-    left = λ r after g. goes-reads (numbersOf count due (rest s)) r start after (subst (λ (n : ℕ). Goes 0 (numbersOf n due (rest s)) r start after) {x = count - 0} {y = count} (omega arith) g);
+    answer = ap (λ (n : ℕ). wholeAmong (numbersOf n due (rest s))) {x = count - 0} {y = count} (omega arith);
+    array = ap (λ (n : ℕ). sets start 0 (readUp n (rest s))) {x = count - 0} {y = count} (omega arith);
   }
 
   pub filling-step : (now : List Float) (i at : ℕ) (f : Number) (x : Float) → Filling now i at → i < count → at < length s
@@ -309,40 +320,68 @@ module _ (count : ℕ) (due : Bool) (s : List ℕ) (start : List Float) where
     few = omega arith;
     within = float-room s at f x l e p;
     same = length-set now i x ∙ q .same;
-    left = λ r after g. q .left r after (subst (λ (o : Option Numbers). Goes i o r now after) turned (goes-more i x (numbersOf (count - (i + 1)) due (rest (drop (at + 17) s))) r now after g));
+    answer =
+        among-more x (numbersOf (count - (i + 1)) due (rest (drop (at + 17) s)))
+        ∙ ap wholeAmong (numbers-step (count - (i + 1)) due (first s at) (rest (drop (at + 17) s)) x was)
+        ∙ ap₂ (λ (n : ℕ) (fs : List (List ℕ)). wholeAmong (numbersOf n due fs)) left next ∙ q .answer;
+    array =
+        ap (λ (j : ℕ). sets (set now i x) j (readUp (count - (i + 1)) (rest (drop (at + 17) s)))) (add-one i)
+        ∙ ap (sets now i) (up-step (count - (i + 1)) (first s at) (rest (drop (at + 17) s)) x was)
+        ∙ ap₂ (λ (n : ℕ) (fs : List (List ℕ)). sets now i (readUp n fs)) left next ∙ q .array;
   }
     where
-      turned : more x (numbersOf (count - (i + 1)) due (rest (drop (at + 17) s))) ≡ numbersOf (count - i) due (rest (drop at s))
-      turned =
-          fields-step (count - (i + 1)) due s at x l (was-float s (at + 1) f x e p)
-          ∙ ap (λ (n : ℕ). numbersOf n due (rest (drop at s))) {x = suc (count - (i + 1))} {y = count - i} (omega arith)
+      was : numberOf (first s at) ≡ some x
+      was = was-float s (at + 1) f x e p
 
-  filling-not : (now : List Float) (i at : ℕ) → Filling now i at → none ≡ numbersOf (count - i) due (rest (drop at s)) → Reads (numbersOf count due (rest s)) whole.Not start now
-  unfolding Goes
-  filling-not now i at q e = q .left whole.Not now (subst (λ (o : Option Numbers). Goes i o whole.Not now now) e refl)
+      left : suc (count - (i + 1)) ≡ count - i
+      left = omega arith
+
+      next : first s at ∷ rest (drop (at + 17) s) ≡ rest (drop at s)
+      next = fields-step s at x l was
+
+  -- no more floats are read
+  filling-done : (now : List Float) (i at : ℕ) (r : Whole) → Filling now i at → count ≤ length start → wholeIn r ≡ wholeAmong (numbersOf (count - i) due (rest (drop at s))) → [] ≡ readUp (count - i) (rest (drop at s))
+      → Reads count due (rest s) r start now
+  filling-done now i at r q room e u = record {
+    answer = e ∙ q .answer ∙ ap (λ (fs : List (List ℕ)). wholeAmong (numbersOf count due fs)) (readable-all (length start) count (rest s) room);
+    array = ap (sets now i) u ∙ q .array ∙ ap (λ (fs : List (List ℕ)). sets start 0 (readUp count fs)) (readable-all (length start) count (rest s) room);
+  }
 
   -- there is no field left
-  pub filling-stop : (now : List Float) (i at : ℕ) → Filling now i at → i < count → length s ≤ at → Reads (numbersOf count due (rest s)) whole.Not start now
-  filling-stop now i at q h l = filling-not now i at q (numbers-none (count - i) due (omega arith) ∙ ap (numbersOf (count - i) due) (sym (rest-none s at l)))
+  pub filling-stop : (now : List Float) (i at : ℕ) → Filling now i at → count ≤ length start → i < count → length s ≤ at → Reads count due (rest s) whole.Not start now
+  unfolding wholeIn wholeAmong
+  filling-stop now i at q room h l =
+      filling-done now i at whole.Not q room
+      (ap wholeAmong (numbers-none (count - i) due (omega arith) ∙ ap (numbersOf (count - i) due) (sym (rest-none s at l))))
+      (up-none (count - i) ∙ ap (readUp (count - i)) (sym (rest-none s at l)))
 
   -- the next field is no float
-  pub filling-bad : (now : List Float) (i at : ℕ) (f : Number) → Filling now i at → i < count → at < length s
-      → floatIn f ≡ numberOf (getD (split 44 (take (length s - (at + 1)) (drop (at + 1) s))) 0 []) → f ≡ number.Not → Reads (numbersOf count due (rest s)) whole.Not start now
-  filling-bad now i at f q h l e p =
-      filling-not now i at q
-      (fields-bad (count - (i + 1)) due s at l (was-none s (at + 1) f e p)
-      ∙ ap (λ (n : ℕ). numbersOf n due (rest (drop at s))) {x = suc (count - (i + 1))} {y = count - i} (omega arith))
+  pub filling-bad : (now : List Float) (i at : ℕ) (f : Number) → Filling now i at → count ≤ length start → i < count → at < length s
+      → floatIn f ≡ numberOf (getD (split 44 (take (length s - (at + 1)) (drop (at + 1) s))) 0 []) → f ≡ number.Not → Reads count due (rest s) whole.Not start now
+  unfolding wholeIn wholeAmong
+  filling-bad now i at f q room h l e p =
+      filling-done now i at whole.Not q room
+      (fields-some s at l (λ (fs : List (List ℕ)). none ≡ wholeAmong (numbersOf (count - i) due fs)) (λ fs. ap wholeAmong (numbers-bad (count - (i + 1)) due (first s at) fs was ∙ ap (λ (n : ℕ). numbersOf n due (first s at ∷ fs)) left)))
+      (fields-some s at l (λ (fs : List (List ℕ)). [] ≡ readUp (count - i) fs) (λ fs. up-bad (count - (i + 1)) (first s at) fs was ∙ ap (λ (n : ℕ). readUp n (first s at ∷ fs)) left))
+    where
+      was : numberOf (first s at) ≡ none
+      was = was-none s (at + 1) f e p
 
-  pub filling-end : (now : List Float) (i at : ℕ) (r : Whole) → Filling now i at → count ≤ i → Reads (numbersOf 0 due (rest (take (length s - at) (drop at s)))) r now now
-      → Reads (numbersOf count due (rest s)) r start now
-  filling-end now i at r q h g =
-      q .left r now
-      (subst (λ (n : ℕ). Goes i (numbersOf n due (rest (drop at s))) r now now) {x = 0} {y = count - i} (omega arith)
-      (goes-last i due (rest (drop at s)) r now (subst (λ (u : List ℕ). Reads (numbersOf 0 due (rest u)) r now now) (rest-is s at) g)))
+      left : suc (count - (i + 1)) ≡ count - i
+      left = omega arith
+
+  pub filling-end : (now : List Float) (i at : ℕ) (r : Whole) → Filling now i at → count ≤ length start → count ≤ i → wholeIn r ≡ wholeAmong (numbersOf 0 due (rest (take (length s - at) (drop at s)))) → Reads count due (rest s) r start now
+  filling-end now i at r q room h e =
+      filling-done now i at r q room
+      (e ∙ ap₂ (λ (n : ℕ) (u : List ℕ). wholeAmong (numbersOf n due (rest u))) none-left (rest-is s at))
+      (up-zero (rest (drop at s)) ∙ ap (λ (n : ℕ). readUp n (rest (drop at s))) none-left)
+    where
+      none-left : 0 ≡ count - i
+      none-left = omega arith
 
 -- how many floats and whether a whole number, as the code has them
-pub counted : {count n : ℕ} {due w : Bool} (fs : List (List ℕ)) (r : Whole) (before after : List Float) → count ≡ n → due ≡ w → Reads (numbersOf count due fs) r before after → Reads (numbersOf n w fs) r before after
-counted fs r before after e f g = subst (λ (o : Option Numbers). Reads o r before after) (ap₂ (λ (k : ℕ) (t : Bool). numbersOf k t fs) e f) g
+pub counted : {count n : ℕ} {due w : Bool} (fs : List (List ℕ)) (r : Whole) (before after : List Float) → count ≡ n → due ≡ w → Reads count due fs r before after → Reads n w fs r before after
+counted {count} {n} {due} {w} fs r before after e f g = subst (λ (t : Bool). Reads n t fs r before after) f (subst (λ (k : ℕ). Reads k due fs r before after) e g)
 
 -- ---- what was read, from the answer
 
@@ -382,23 +421,62 @@ numbers-right (suc n) due (f ∷ fs) = go (numberOf f) refl (numbers-right n due
     go none e h = subst (Right (suc n)) (numbers-bad n due f fs e) tt
     go (some x) e h = subst (Right (suc n)) (numbers-step n due f fs x e) (right-more n x (numbersOf n due fs) (number-right f x e) h)
 
-reads-value : (n : ℕ) (o : Option Numbers) (k : ℕ) (before after : List Float) → Right n o → n ≤ length before → Reads o (whole.Value k) before after → o ≡ some (record { floats = take n after; whole = k })
-unfolding Reads
-reads-value n none k before after l h g = absurd (let z : _≡_ {A = ℕ} 0 1 = cc in omega arith)
-reads-value n (some m) k before after l h g =
-    let p : k ≡ m .whole = (let q = g .0 in cc) in
-    let q : take n after ≡ m .floats = ap (take n) (g .1) ∙ ap (λ (j : ℕ). take j (sets before 0 (m .floats))) (sym (l .0)) ∙ kept-front before (m .floats) (omega (arith, l .0, h)) in
-    ap₂ (λ (f : List Float) (j : ℕ). some (record { floats = f; whole = j })) (sym q) (sym p)
+-- the floats of numbers that are understood are those that were read
+Agree : List Float → Option Numbers → Type 0
+Agree l none = Unit {0}
+Agree l (some m) = l ≡ m .floats
 
-reads-not : (o : Option Numbers) (before after : List Float) → Reads o whole.Not before after → o ≡ none
-unfolding Reads
-reads-not none before after g = refl
-reads-not (some m) before after g = absurd (let q = g .0 in let z : _≡_ {A = ℕ} 0 1 = cc in omega arith)
+agree-more : (x : Float) (l : List Float) (o : Option Numbers) → Agree l o → Agree (x ∷ l) (more x o)
+unfolding Agree more
+agree-more x l none h = tt
+agree-more x l (some m) h = ap (λ (k : List Float). x ∷ k) h
 
--- the numbers that the code has read, and that it has read none
-pub numbers-value : (n : ℕ) (due : Bool) (fs : List (List ℕ)) (k : ℕ) (before after : List Float) → n ≤ length before → Reads (numbersOf n due fs) (whole.Value k) before after
-    → numbersOf n due fs ≡ some (record { floats = take n after; whole = k })
-numbers-value n due fs k before after h g = reads-value n (numbersOf n due fs) k before after (numbers-right n due fs) h g
+up-agrees : (n : ℕ) (due : Bool) (fs : List (List ℕ)) → Agree (readUp n fs) (numbersOf n due fs)
+unfolding Agree numbersOf readUp whole-only
+up-agrees zero false [] = refl
+up-agrees zero false (f ∷ fs) = tt
+up-agrees zero true [] = tt
+up-agrees zero true (f ∷ []) = subst (Agree []) (numbers-one f) (go (wholeOf f))
+  where
+    go : (o : Option ℕ) → Agree [] (whole-only o)
+    go none = tt
+    go (some n) = refl
+up-agrees zero true (f ∷ g ∷ fs) = tt
+up-agrees (suc n) due [] = tt
+up-agrees (suc n) due (f ∷ fs) = go (numberOf f) refl (up-agrees n due fs)
+  where
+    go : (o : Option Float) → numberOf f ≡ o → Agree (readUp n fs) (numbersOf n due fs) → Agree (readUp (suc n) (f ∷ fs)) (numbersOf (suc n) due (f ∷ fs))
+    go none e h = subst (Agree (readUp (suc n) (f ∷ fs))) (numbers-bad n due f fs e) tt
+    go (some x) e h = subst (Agree (readUp (suc n) (f ∷ fs))) (numbers-step n due f fs x e) (subst (λ (l : List Float). Agree l (more x (numbersOf n due fs))) (up-step n f fs x e) (agree-more x (readUp n fs) (numbersOf n due fs) h))
 
-pub numbers-not : (n : ℕ) (due : Bool) (fs : List (List ℕ)) (before after : List Float) → Reads (numbersOf n due fs) whole.Not before after → numbersOf n due fs ≡ none
-numbers-not n due fs before after g = reads-not (numbersOf n due fs) before after g
+answer-value : (l : List Float) (o : Option Numbers) (k : ℕ) → Agree l o → some k ≡ wholeAmong o → o ≡ some (record { floats = l; whole = k })
+unfolding Agree wholeAmong
+answer-value l none k a e = absurd (let z : _≡_ {A = ℕ} 0 1 = cc in omega arith)
+answer-value l (some m) k a e = let p : k ≡ m .whole = cc in ap₂ (λ (f : List Float) (j : ℕ). some (record { floats = f; whole = j })) (sym a) (sym p)
+
+answer-not : (o : Option Numbers) → none ≡ wholeAmong o → o ≡ none
+unfolding wholeAmong
+answer-not none e = refl
+answer-not (some m) e = absurd (let z : _≡_ {A = ℕ} 0 1 = cc in omega arith)
+
+-- what the code has read into an array with room: the numbers, that they are none, and what is in the array
+module _ (n : ℕ) (due : Bool) (fs : List (List ℕ)) (before after : List Float) (room : n ≤ length before) where
+  pub numbers-read : (k : ℕ) → Reads n due fs (whole.Value k) before after → numbersOf n due fs ≡ some (record { floats = readUp n fs; whole = k })
+  unfolding wholeIn
+  numbers-read k g = answer-value (readUp n fs) (numbersOf n due fs) k (up-agrees n due fs) (g .answer ∙ ap (λ (ps : List (List ℕ)). wholeAmong (numbersOf n due ps)) (sym (readable-all (length before) n fs room)))
+
+  pub numbers-not : Reads n due fs whole.Not before after → numbersOf n due fs ≡ none
+  unfolding wholeIn
+  numbers-not g = answer-not (numbersOf n due fs) (g .answer ∙ ap (λ (ps : List (List ℕ)). wholeAmong (numbersOf n due ps)) (sym (readable-all (length before) n fs room)))
+
+  pub array-read : (r : Whole) → Reads n due fs r before after → after ≡ sets before 0 (readUp n fs)
+  array-read r g = g .array ∙ ap (λ (ps : List (List ℕ)). sets before 0 (readUp n ps)) (sym (readable-all (length before) n fs room))
+
+  pub numbers-value : (k : ℕ) → Reads n due fs (whole.Value k) before after → numbersOf n due fs ≡ some (record { floats = take n after; whole = k })
+  numbers-value k g = numbers-read k g ∙ ap (λ (l : List Float). some (record { floats = l; whole = k })) (sym front)
+    where
+      many : length (readUp n fs) ≡ n
+      many = subst (Right n) (numbers-read k g) (numbers-right n due fs) .0
+
+      front : take n after ≡ readUp n fs
+      front = ap (take n) (array-read (whole.Value k) g) ∙ ap (λ (j : ℕ). take j (sets before 0 (readUp n fs))) (sym many) ∙ kept-front before (readUp n fs) (omega (arith, many, room))

@@ -20,11 +20,11 @@ use Rattle.model.proofs.Counts.{cond-same}
 use Rattle.trees.specs.Pieces.{AsksHeld, Does, DoesHeld, Pieces, Says, SearchesHeld, roomFor}
 use Rattle.record.specs.Numbers.{decimal}
 use Rattle.replies.specs.Lines.{after, answer, crlf, field, heard, held?, line, makes, points, told}
-use Rattle.replies.specs.Printed.{PutsTold, ShapedPoint}
+use Rattle.replies.specs.Printed.{PutsTold}
 use Rattle.replies.specs.Programs.{Answers, Keeps, Wrote, longest}
 use Rattle.replies.proofs.Lines.{line-figure, line-reply, line-told}
 use Rattle.replies.proofs.Shapes.{Asked, held-shaped}
-use Rattle.replies.proofs.Told.{told-is}
+use Rattle.replies.proofs.Told.{ShapedPoint, told-is}
 
 -- ---- a call on a tree leaves a tree
 abbrev pub Stays : Kind → Call → Type 0

@@ -9,7 +9,6 @@ use borrow.Author.Tests.{ne-eqb}
 use Rattle.model.specs.Calls.{Call, Ask, Outcome, Query, number}
 use Rattle.record.specs.Numbers.{decimal}
 use Rattle.replies.specs.Lines.{after, crlf, field, line, points, told}
-use Rattle.replies.specs.Printed.{found}
 
 -- a call that gives nothing but its reply number
 pub line-reply : (c : Call) (o : Outcome) → after c o ≡ [] → line c o ≡ decimal (number (o .reply)) ++ crlf
@@ -34,6 +33,11 @@ line-refused c o e = refused-is (number (o .reply)) (after c o) e
 pub line-figure : (q : Query) (o : Outcome) → told q o ≡ field (decimal (o .figure)) → number (o .reply) ≡ 0 → line (Ask q) o ≡ decimal 0 ++ field (decimal (o .figure)) ++ crlf
 unfolding line after
 line-figure q o e z = ap (λ (n : ℕ). decimal n ++ cond (eqb n 0) (told q o) [] ++ crlf) z ∙ ap (λ (l : List ℕ). decimal 0 ++ l ++ crlf) e
+
+-- the line of a search, whatever became of it
+unfoldable pub found : Outcome → List ℕ
+unfolding decimal number points
+found o = decimal (number (o .reply)) ++ cond (eqb (number (o .reply)) 0) (field (decimal (o .figure)) ++ points (o .points)) [] ++ crlf
 
 -- the points that a search found
 pub line-told : (q : Query) (o : Outcome) → told q o ≡ field (decimal (o .figure)) ++ points (o .points) → line (Ask q) o ≡ found o

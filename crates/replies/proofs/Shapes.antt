@@ -23,7 +23,7 @@ use Rattle.pool.proofs.Lists.{by-lt}
 use Rattle.trees.specs.Pieces.{Pieces, Says}
 use Rattle.trees.specs.Points.{pointAt}
 use Rattle.trees.proofs.Held.{floats-length, held-all}
-use Rattle.replies.specs.Printed.{ShapedPoint, Shaped}
+use Rattle.replies.proofs.Told.{ShapedPoint, Shaped}
 
 -- ---- the points that are held
 word-small : (s : List ℕ) (i : ℕ) → ((j : ℕ) → getD s j 0 < 256) → getD (words s) i 0 < 4294967296

@@ -21,10 +21,19 @@ use Rattle.words.proofs.Words.{words-at}
 use Rattle.answers.proofs.Writes.{fits-place, floatBytes, floatBytes-length}
 use Rattle.trees.specs.Pieces.{Hands, bytes, coordinates, payloads, roomFor}
 use Rattle.replies.specs.Lines.{crlf, field, point, points}
-use Rattle.replies.specs.Printed.{hexAt, hexes, nibbles, pointsFrom, ShapedPoint, PutsTold, Shaped, found}
+use Rattle.replies.specs.Printed.{hexAt, hexes, nibbles, pointsFrom, PutsTold}
 use Rattle.replies.specs.Programs.{Puts, Wrote}
 use Rattle.replies.proofs.Hexes.{nibbles-bytes}
-use Rattle.replies.proofs.Lines.{refused-is}
+use Rattle.replies.proofs.Lines.{found, refused-is}
+
+-- a point that can be handed over in bytes: a coordinate for each axis, and "Payload: unsigned 32 bits"
+abbrev pub ShapedPoint : (axes : ℕ) → Point → Type 0
+ShapedPoint axes p = (length (p .at) ≡ axes) × (p .payload < 4294967296)
+
+-- the answer of a search: its figure is the count of its points, and each can be handed over
+pub record Shaped (axes : ℕ) (o : Outcome) : Type 0 where
+  pub counted : o .figure ≡ length (o .points)
+  pub each : All (ShapedPoint axes) (o .points)
 
 -- ---- coordinates
 -- the next eight bytes are a float's

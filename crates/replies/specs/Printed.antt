@@ -1,18 +1,13 @@
 -- What is printed from the bytes that a search hands over, with no float in between; the proofs say that these are the lines of its points. Definitions only.
 use mathlib.Core.Path.{_≡_}
 use mathlib.Core.Logic.{_≢_}
-use mathlib.Core.Bool.{cond}
 use mathlib.Core.List.{List, [], _∷_, _++_}
 use Prim.Native.Nat.{ℕ, zero, suc, _+_, _*_, _/_, _%_, _<_, _≤_}
-use lib.Dec.{eqb}
-use lib.ListN.{length, getD, take, drop}
-use Rattle.model.specs.Calls.{Outcome, number}
-use Rattle.model.specs.Soundness.{All}
-use Rattle.model.specs.Trees.{Point}
+use lib.ListN.{getD, take, drop}
 use Rattle.words.specs.Words.{words}
 use Rattle.trees.specs.Pieces.{roomFor}
 use Rattle.record.specs.Numbers.{glyph, decimal}
-use Rattle.replies.specs.Lines.{crlf, field, points}
+use Rattle.replies.specs.Lines.{crlf, field}
 use Rattle.replies.specs.Programs.{Puts, Wrote}
 
 -- the hex digits of a number from its bytes, of which the first is the low one
@@ -41,21 +36,7 @@ unfolding hexes decimal words
 pointsFrom axes zero cs ms j = []
 pointsFrom axes (suc n) cs ms j = pointAt axes cs ms j ++ pointsFrom axes n cs ms (j + 1)
 
--- a point that can be handed over in bytes: a coordinate for each axis, and "Payload: unsigned 32 bits"
-abbrev pub ShapedPoint : (axes : ℕ) → Point → Type 0
-ShapedPoint axes p = (length (p .at) ≡ axes) × (p .payload < 4294967296)
-
--- the answer of a search: its figure is the count of its points, and each can be handed over
-pub record Shaped (axes : ℕ) (o : Outcome) : Type 0 where
-  pub counted : o .figure ≡ length (o .points)
-  pub each : All (ShapedPoint axes) (o .points)
-
--- the line of a search, whatever became of it
-unfoldable pub found : Outcome → List ℕ
-unfolding decimal number points
-found o = decimal (number (o .reply)) ++ cond (eqb (number (o .reply)) 0) (field (decimal (o .figure)) ++ points (o .points)) [] ++ crlf
-
--- that line, printed from what a search handed over. Done, it needs room for the reply, the count and the line end, 14 bytes at most, and for each float 17 with its comma and each payload 11; a
+-- the line of a search, whatever became of it, printed from what it handed over. Done, it needs room for the reply, the count and the line end, 14 bytes at most, and for each float 17 with its comma and each payload 11; a
 -- count of more points than were lent is no answer, and nothing is written
 pub record PutsTold (axes : ℕ) (coords payloads : List ℕ) (reply count : ℕ) (before : List ℕ) (at : ℕ) (after : List ℕ) (r : ℕ) : Type 0 where
   pub refused : reply ≢ 0 → Puts 12 before at (decimal reply ++ crlf) after r

@@ -8,10 +8,10 @@ use denote.Ref.{now}
 use Rattle.record.specs.Commands.{callOf, floatsAfter}
 use Rattle.record.specs.declared.Word.{Word}
 use Rattle.record.specs.declared.Word.the-variants as Word
-use Rattle.commands.specs.Commands.{callIn, says}
+use Rattle.commands.specs.Commands.{callIn, flattened}
 use Rattle.commands.specs.declared.Command.{Command}
 use Rattle.commands.specs.declared.Command.the-variants as command
-use Rattle.commands.proofs.Said.{Right, either, says-none, says-some}
+use Rattle.commands.proofs.Said.{Meant, Right, either, says-none, says-some}
 use borrow.Author.Needs.{needs}
 use Rattle.commands.proofs.parse.Statement.{statement}
 use Rattle.commands.proofs.parse.Tie as tie
@@ -63,8 +63,8 @@ enum-told : tie.Need-enum-told
 enum-told c = search needs
 
 returns : tie.Need-returns
-unfolding callIn
-returns c = says-none (c .before .before .before .before .before .before .before .before .before .before .before .args .deep) _ _ _ _ _ _ _ (c .before .before .before .before .before .before .before .before .before .find .ensures .0) (c .before .before .before .before .before .before .before .before .before .find .ensures .1 .0) (c .before .before .before .before .before .before .before .before .before .find .ensures .1 .1) (c .before .before .before .before .before .before .before .first-word .ensures) (c .before .before .before .before .before .before .axes .ensures) refl (c .before .before .before .numbers-of .ensures .0) (c .enum-told .given .1)
+unfolding callIn flattened
+returns c = (says-none (c .before .before .before .before .before .before .before .before .before .before .before .args .deep) _ _ _ _ _ _ _ (c .before .before .before .before .before .before .before .before .before .find .ensures .0) (c .before .before .before .before .before .before .before .before .before .find .ensures .1 .0) (c .before .before .before .before .before .before .before .before .before .find .ensures .1 .1) (c .before .before .before .before .before .before .before .first-word .ensures) (c .before .before .before .before .before .before .axes .ensures) refl (c .before .before .before .numbers-of .ensures) (c .enum-told .given .1), refl)
 
 array-read-pick : tie.Need-array-read-pick
 array-read-pick c = search needs
@@ -170,50 +170,50 @@ enum-told-11 c = search needs
 
 -- what was said, for a word and the command that is made of the array, what was picked of it, and the whole number
 said : (c : lts.After-pick4 (find-reads.Asked, find-reads.Learnt, first-word-reads.Asked, first-word-reads.Learnt, axes-reads.Asked, axes-reads.Learnt, numbers-of-reads.Asked, numbers-of-reads.Learnt, pick-reads.Asked, pick-reads.Learnt) reads.Pre reads.Post) (v : Word) (f : List Float → (z w h d : Float) → ℕ → Command)
-    → ((deep : Bool) (o : Float) → Right deep o v (c .before .before .before .before .before .m .given .0 .0) (λ l z w h d. f l z w h d (c .before .before .before .before .before .m .given .0 .0)))
-    → c .before .before .before .before .before .before .before .before .before .before .before .before .first-word .result ≡ v → callIn (c .before .before .before .before .before .before .before .before .before .before .before .before .before .before .before .before .args .deep) (f (c .before .before .before .before .before .before .before .before .numbers-of .last .1 .1 .1 .0) (c .before .before .before .pick .result) (c .before .before .pick2 .result) (c .before .pick3 .result) (c .pick4 .result) (c .before .before .before .before .before .m .given .0 .0)) ≡ says (c .before .before .before .before .before .before .before .before .before .before .before .before .before .before .before .before .args .deep) (now (c .before .before .before .before .before .before .before .before .before .before .before .before .before .before .before .before .args .s))
+    → ((deep : Bool) → Right deep v (c .before .before .before .before .before .m .given .0 .0) (λ l z w h d. f l z w h d (c .before .before .before .before .before .m .given .0 .0)))
+    → c .before .before .before .before .before .before .before .before .before .before .before .before .first-word .result ≡ v → Meant (c .before .before .before .before .before .before .before .before .before .before .before .before .before .before .before .before .args .deep) (now (c .before .before .before .before .before .before .before .before .before .before .before .before .before .before .before .before .args .s)) (f (c .before .before .before .before .before .before .before .before .numbers-of .last .1 .1 .1 .0) (c .before .before .before .pick .result) (c .before .before .pick2 .result) (c .before .pick3 .result) (c .pick4 .result) (c .before .before .before .before .before .m .given .0 .0))
 said c v f g e =
-    says-some (c .before .before .before .before .before .before .before .before .before .before .before .before .before .before .before .before .args .deep) _ _ _ _ _ _ _ (c .before .before .before .before .before .before .before .before .before .before .before .before .before .before .find .ensures .0) (c .before .before .before .before .before .before .before .before .before .before .before .before .before .before .find .ensures .1 .0) (c .before .before .before .before .before .before .before .before .before .before .before .before .before .before .find .ensures .1 .1) (c .before .before .before .before .before .before .before .before .before .before .before .before .first-word .ensures) (c .before .before .before .before .before .before .before .before .before .before .before .axes .ensures) refl (c .before .before .before .before .before .before .before .before .numbers-of .ensures .0) v (c .before .before .before .before .before .m .given .0 .0) _ _ _ _ _ (λ l z w h d. f l z w h d (c .before .before .before .before .before .m .given .0 .0)) (c .before .before .before .before .before .before .before .before .numbers-of .kept .1 .1 .1 .0) (c .before .before .before .pick .ensures) (c .before .before .pick2 .ensures) (c .before .pick3 .ensures) (c .pick4 .ensures) (g (c .before .before .before .before .before .before .before .before .before .before .before .before .before .before .before .before .args .deep) _) e (c .before .before .before .before .before .m .given .1)
+    says-some (c .before .before .before .before .before .before .before .before .before .before .before .before .before .before .before .before .args .deep) _ _ _ _ _ _ _ (c .before .before .before .before .before .before .before .before .before .before .before .before .before .before .find .ensures .0) (c .before .before .before .before .before .before .before .before .before .before .before .before .before .before .find .ensures .1 .0) (c .before .before .before .before .before .before .before .before .before .before .before .before .before .before .find .ensures .1 .1) (c .before .before .before .before .before .before .before .before .before .before .before .before .first-word .ensures) (c .before .before .before .before .before .before .before .before .before .before .before .axes .ensures) refl (c .before .before .before .before .before .before .before .before .numbers-of .ensures) v (c .before .before .before .before .before .m .given .0 .0) _ _ _ _ (λ l z w h d. f l z w h d (c .before .before .before .before .before .m .given .0 .0)) (c .before .before .before .before .before .before .before .before .numbers-of .kept .1 .1 .1 .0) (c .before .before .before .pick .ensures) (c .before .before .pick2 .ensures) (c .before .pick3 .ensures) (c .pick4 .ensures) (g (c .before .before .before .before .before .before .before .before .before .before .before .before .before .before .before .before .args .deep)) e (c .before .before .before .before .before .m .given .1)
 
 returns-2 : tie.Need-returns-2
-unfolding callIn callOf floatsAfter zipWith
-returns-2 c = said (c .before .before) Word.Create (λ l z w h d m. command.Create (getD l 0 nan) (getD l 1 nan) z w h d m) (λ deep o. either (λ t. Right t o Word.Create (c .before .before .before .before .before .before .before .m .given .0 .0) (λ l z w h d. command.Create (getD l 0 nan) (getD l 1 nan) z w h d (c .before .before .before .before .before .before .before .m .given .0 .0))) (λ a b d e f g. refl) (λ a b d e f g. refl) deep) (c .enum-told2 .given .1)
+unfolding callIn callOf flattened floatsAfter zipWith
+returns-2 c = said (c .before .before) Word.Create (λ l z w h d m. command.Create (getD l 0 nan) (getD l 1 nan) z w h d m) (either (λ t. Right t Word.Create (c .before .before .before .before .before .before .before .m .given .0 .0) (λ l z w h d. command.Create (getD l 0 nan) (getD l 1 nan) z w h d (c .before .before .before .before .before .before .before .m .given .0 .0))) (λ a b d e f g. (refl, refl)) (λ a b d e f g. (refl, refl))) (c .enum-told2 .given .1)
 
 returns-3 : tie.Need-returns-3
-unfolding callIn callOf floatsAfter zipWith
-returns-3 c = said (c .before .before) Word.Insert (λ l z w h d m. command.Insert (getD l 0 nan) (getD l 1 nan) z m) (λ deep o. either (λ t. Right t o Word.Insert (c .before .before .before .before .before .before .before .m .given .0 .0) (λ l z w h d. command.Insert (getD l 0 nan) (getD l 1 nan) z (c .before .before .before .before .before .before .before .m .given .0 .0))) (λ a b d e f g. refl) (λ a b d e f g. refl) deep) (c .enum-told3 .given .1)
+unfolding callIn callOf flattened floatsAfter zipWith
+returns-3 c = said (c .before .before) Word.Insert (λ l z w h d m. command.Insert (getD l 0 nan) (getD l 1 nan) z m) (either (λ t. Right t Word.Insert (c .before .before .before .before .before .before .before .m .given .0 .0) (λ l z w h d. command.Insert (getD l 0 nan) (getD l 1 nan) z (c .before .before .before .before .before .before .before .m .given .0 .0))) (λ a b d e f g. (refl, refl)) (λ a b d e f g. (refl, refl))) (c .enum-told3 .given .1)
 
 returns-4 : tie.Need-returns-4
-unfolding callIn callOf floatsAfter zipWith
-returns-4 c = said (c .before .before) Word.Delete (λ l z w h d m. command.Delete (getD l 0 nan) (getD l 1 nan) z m) (λ deep o. either (λ t. Right t o Word.Delete (c .before .before .before .before .before .before .before .m .given .0 .0) (λ l z w h d. command.Delete (getD l 0 nan) (getD l 1 nan) z (c .before .before .before .before .before .before .before .m .given .0 .0))) (λ a b d e f g. refl) (λ a b d e f g. refl) deep) (c .enum-told4 .given .1)
+unfolding callIn callOf flattened floatsAfter zipWith
+returns-4 c = said (c .before .before) Word.Delete (λ l z w h d m. command.Delete (getD l 0 nan) (getD l 1 nan) z m) (either (λ t. Right t Word.Delete (c .before .before .before .before .before .before .before .m .given .0 .0) (λ l z w h d. command.Delete (getD l 0 nan) (getD l 1 nan) z (c .before .before .before .before .before .before .before .m .given .0 .0))) (λ a b d e f g. (refl, refl)) (λ a b d e f g. (refl, refl))) (c .enum-told4 .given .1)
 
 returns-5 : tie.Need-returns-5
-unfolding callIn callOf floatsAfter zipWith
-returns-5 c = said (c .before .before) Word.Contains (λ l z w h d m. command.Contains (getD l 0 nan) (getD l 1 nan) z m) (λ deep o. either (λ t. Right t o Word.Contains (c .before .before .before .before .before .before .before .m .given .0 .0) (λ l z w h d. command.Contains (getD l 0 nan) (getD l 1 nan) z (c .before .before .before .before .before .before .before .m .given .0 .0))) (λ a b d e f g. refl) (λ a b d e f g. refl) deep) (c .enum-told5 .given .1)
+unfolding callIn callOf flattened floatsAfter zipWith
+returns-5 c = said (c .before .before) Word.Contains (λ l z w h d m. command.Contains (getD l 0 nan) (getD l 1 nan) z m) (either (λ t. Right t Word.Contains (c .before .before .before .before .before .before .before .m .given .0 .0) (λ l z w h d. command.Contains (getD l 0 nan) (getD l 1 nan) z (c .before .before .before .before .before .before .before .m .given .0 .0))) (λ a b d e f g. (refl, refl)) (λ a b d e f g. (refl, refl))) (c .enum-told5 .given .1)
 
 returns-6 : tie.Need-returns-6
-unfolding callIn callOf floatsAfter zipWith
-returns-6 c = said (c .before .before) Word.Range (λ l z w h d m. command.Range (getD l 0 nan) (getD l 1 nan) z w) (λ deep o. either (λ t. Right t o Word.Range (c .before .before .before .before .before .before .before .m .given .0 .0) (λ l z w h d. command.Range (getD l 0 nan) (getD l 1 nan) z w)) (λ a b d e f g. refl) (λ a b d e f g. refl) deep) (c .enum-told6 .given .1)
+unfolding callIn callOf flattened floatsAfter zipWith
+returns-6 c = said (c .before .before) Word.Range (λ l z w h d m. command.Range (getD l 0 nan) (getD l 1 nan) z w) (either (λ t. Right t Word.Range (c .before .before .before .before .before .before .before .m .given .0 .0) (λ l z w h d. command.Range (getD l 0 nan) (getD l 1 nan) z w)) (λ a b d e f g. (refl, refl)) (λ a b d e f g. (refl, refl))) (c .enum-told6 .given .1)
 
 returns-7 : tie.Need-returns-7
-unfolding callIn callOf floatsAfter zipWith
-returns-7 c = said (c .before .before) Word.Knn (λ l z w h d m. command.Knn (getD l 0 nan) (getD l 1 nan) z m) (λ deep o. either (λ t. Right t o Word.Knn (c .before .before .before .before .before .before .before .m .given .0 .0) (λ l z w h d. command.Knn (getD l 0 nan) (getD l 1 nan) z (c .before .before .before .before .before .before .before .m .given .0 .0))) (λ a b d e f g. refl) (λ a b d e f g. refl) deep) (c .enum-told7 .given .1)
+unfolding callIn callOf flattened floatsAfter zipWith
+returns-7 c = said (c .before .before) Word.Knn (λ l z w h d m. command.Knn (getD l 0 nan) (getD l 1 nan) z m) (either (λ t. Right t Word.Knn (c .before .before .before .before .before .before .before .m .given .0 .0) (λ l z w h d. command.Knn (getD l 0 nan) (getD l 1 nan) z (c .before .before .before .before .before .before .before .m .given .0 .0))) (λ a b d e f g. (refl, refl)) (λ a b d e f g. (refl, refl))) (c .enum-told7 .given .1)
 
 returns-8 : tie.Need-returns-8
-unfolding callIn callOf floatsAfter zipWith
-returns-8 c = said (c .before .before) Word.Box (λ l z w h d m. command.Box (getD l 0 nan) (getD l 1 nan) z w h d) (λ deep o. either (λ t. Right t o Word.Box (c .before .before .before .before .before .before .before .m .given .0 .0) (λ l z w h d. command.Box (getD l 0 nan) (getD l 1 nan) z w h d)) (λ a b d e f g. refl) (λ a b d e f g. refl) deep) (c .enum-told8 .given .1)
+unfolding callIn callOf flattened floatsAfter zipWith
+returns-8 c = said (c .before .before) Word.Box (λ l z w h d m. command.Box (getD l 0 nan) (getD l 1 nan) z w h d) (either (λ t. Right t Word.Box (c .before .before .before .before .before .before .before .m .given .0 .0) (λ l z w h d. command.Box (getD l 0 nan) (getD l 1 nan) z w h d)) (λ a b d e f g. (refl, refl)) (λ a b d e f g. (refl, refl))) (c .enum-told8 .given .1)
 
 returns-9 : tie.Need-returns-9
-unfolding callIn callOf floatsAfter zipWith
-returns-9 c = said (c .before .before) Word.Len (λ l z w h d m. command.Len) (λ deep o. either (λ t. Right t o Word.Len (c .before .before .before .before .before .before .before .m .given .0 .0) (λ l z w h d. command.Len)) (λ a b d e f g. refl) (λ a b d e f g. refl) deep) (c .enum-told9 .given .1)
+unfolding callIn callOf flattened floatsAfter zipWith
+returns-9 c = said (c .before .before) Word.Len (λ l z w h d m. command.Len) (either (λ t. Right t Word.Len (c .before .before .before .before .before .before .before .m .given .0 .0) (λ l z w h d. command.Len)) (λ a b d e f g. (refl, refl)) (λ a b d e f g. (refl, refl))) (c .enum-told9 .given .1)
 
 returns-10 : tie.Need-returns-10
-unfolding callIn callOf floatsAfter zipWith
-returns-10 c = said (c .before .before) Word.Clear (λ l z w h d m. command.Clear) (λ deep o. either (λ t. Right t o Word.Clear (c .before .before .before .before .before .before .before .m .given .0 .0) (λ l z w h d. command.Clear)) (λ a b d e f g. refl) (λ a b d e f g. refl) deep) (c .enum-told10 .given .1)
+unfolding callIn callOf flattened floatsAfter zipWith
+returns-10 c = said (c .before .before) Word.Clear (λ l z w h d m. command.Clear) (either (λ t. Right t Word.Clear (c .before .before .before .before .before .before .before .m .given .0 .0) (λ l z w h d. command.Clear)) (λ a b d e f g. (refl, refl)) (λ a b d e f g. (refl, refl))) (c .enum-told10 .given .1)
 
 returns-11 : tie.Need-returns-11
-unfolding callIn callOf floatsAfter zipWith
-returns-11 c = said (c .before .before) Word.Bad (λ l z w h d m. command.Bad) (λ deep o. either (λ t. Right t o Word.Bad (c .before .before .before .before .before .before .before .m .given .0 .0) (λ l z w h d. command.Bad)) (λ a b d e f g. refl) (λ a b d e f g. refl) deep) (c .enum-told11 .given .1)
+unfolding callIn callOf flattened floatsAfter zipWith
+returns-11 c = said (c .before .before) Word.Bad (λ l z w h d m. command.Bad) (either (λ t. Right t Word.Bad (c .before .before .before .before .before .before .before .m .given .0 .0) (λ l z w h d. command.Bad)) (λ a b d e f g. (refl, refl)) (λ a b d e f g. (refl, refl))) (c .enum-told11 .given .1)
 
 pub parse-spec : {M : Type 1} → statement M
 parse-spec =

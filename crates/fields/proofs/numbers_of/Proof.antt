@@ -1,14 +1,8 @@
-use Prim.Native.Nat.{ℕ, _-_, _<_, _≤_}
-use mathlib.Core.Path.{_≡_, refl}
-use native.Mathlib.Omega.{arith}
+use Prim.Native.Nat.{_-_}
 use borrow.Author.Needs.{needs}
-use Rattle.record.proofs.Reading.{Filling, filling-start, filling-step, filling-stop, filling-bad, filling-end, counted}
+use Rattle.record.proofs.Reading.{Filling, counted, filling-bad, filling-end, filling-start, filling-step, filling-stop, reads-short}
 use Rattle.fields.proofs.numbers_of.Statement.{statement}
 use Rattle.fields.proofs.numbers_of.Tie as tie
-
--- where the floats have room, the array is not too short
-roomy : (count due room : ℕ) {A : Type 0} → count ≡ due → count ≤ room → room < due → A
-roomy count due room e left h = absurd (omega (arith, e, left, h))
 
 abbrev Inv-loop : tie.InvT-loop
 Inv-loop s axes numbers₀ count due i₀ at₀ numbers i at = Filling count due s numbers₀ numbers i at
@@ -23,7 +17,7 @@ whole-after-requires : tie.Need-whole-after-requires Inv-loop μ-loop
 whole-after-requires c κs = search needs
 
 returns : tie.Need-returns Inv-loop μ-loop
-returns c = ((λ h. absurd (omega (arith, c .if1 .taken, c .before .before .floats-after .ensures, h))), (λ h. (refl, refl)))
+returns c = counted _ _ _ _ (c .before .before .floats-after .ensures) (c .before .whole-after .ensures) (reads-short _ _ _ _ (c .if1 .taken))
 
 loop-holds : tie.Need-loop-holds Inv-loop μ-loop
 loop-holds c = filling-start _ _ _ _
@@ -32,7 +26,7 @@ same-length : tie.Need-same-length Inv-loop μ-loop
 same-length c = search needs
 
 returns-2 : tie.Need-returns-2 Inv-loop μ-loop
-returns-2 c = ((λ h. counted _ _ _ _ (c .before .before .before .before .before .floats-after .ensures) (c .before .before .before .before .whole-after .ensures) (filling-stop _ _ _ _ _ _ _ (c .before .before .loop .inv) (c .before .loop-test .taken) (c .if2 .taken))), roomy _ _ _ (c .before .before .before .before .before .floats-after .ensures) (c .before .before .before .if1 .left))
+returns-2 c = counted _ _ _ _ (c .before .before .before .before .before .floats-after .ensures) (c .before .before .before .before .whole-after .ensures) (filling-stop _ _ _ _ _ _ _ (c .before .before .loop .inv) (c .before .before .before .if1 .left) (c .before .loop-test .taken) (c .if2 .taken))
 
 add-first-float : tie.Need-add-first-float Inv-loop μ-loop
 add-first-float c = search needs
@@ -59,7 +53,7 @@ same-length-2 : tie.Need-same-length-2 Inv-loop μ-loop
 same-length-2 c = search needs
 
 returns-3 : tie.Need-returns-3 Inv-loop μ-loop
-returns-3 c = ((λ h. counted _ _ _ _ (c .before .before .before .before .before .before .before .before .before .floats-after .ensures) (c .before .before .before .before .before .before .before .before .whole-after .ensures) (filling-bad _ _ _ _ _ _ _ _ (c .before .before .before .before .before .before .loop .inv) (c .before .before .before .before .before .loop-test .taken) (c .before .before .before .before .if2 .left) (c .before .before .first-float .ensures) (c .enum-told .given .1))), roomy _ _ _ (c .before .before .before .before .before .before .before .before .before .floats-after .ensures) (c .before .before .before .before .before .before .before .if1 .left))
+returns-3 c = counted _ _ _ _ (c .before .before .before .before .before .before .before .before .before .floats-after .ensures) (c .before .before .before .before .before .before .before .before .whole-after .ensures) (filling-bad _ _ _ _ _ _ _ _ (c .before .before .before .before .before .before .loop .inv) (c .before .before .before .before .before .before .before .if1 .left) (c .before .before .before .before .before .loop-test .taken) (c .before .before .before .before .if2 .left) (c .before .before .first-float .ensures) (c .enum-told .given .1))
 
 mul-numbers : tie.Need-mul-numbers Inv-loop μ-loop
 mul-numbers c = search needs
@@ -95,7 +89,7 @@ same-length-3 : tie.Need-same-length-3 Inv-loop μ-loop
 same-length-3 c = search needs
 
 returns-4 : tie.Need-returns-4 Inv-loop μ-loop
-returns-4 c = ((λ h. counted _ _ _ _ (c .before .before .before .before .before .before .floats-after .ensures) (c .before .before .before .before .before .whole-after .ensures) (filling-end _ _ _ _ _ _ _ _ (c .before .before .before .loop .inv) (c .before .before .loop-test .left) (c .last-whole .ensures _))), roomy _ _ _ (c .before .before .before .before .before .before .floats-after .ensures) (c .before .before .before .before .if1 .left))
+returns-4 c = counted _ _ _ _ (c .before .before .before .before .before .before .floats-after .ensures) (c .before .before .before .before .before .whole-after .ensures) (filling-end _ _ _ _ _ _ _ _ (c .before .before .before .loop .inv) (c .before .before .before .before .if1 .left) (c .before .before .loop-test .left) (c .last-whole .ensures))
 
 pub numbers-of-spec : {M : Type 1} → statement M
 numbers-of-spec =

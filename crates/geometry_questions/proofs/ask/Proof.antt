@@ -1,4 +1,4 @@
--- `replay_geometry::question::ask` meets its contract. Assumes nothing.
+-- `geometry_questions::ask` meets its contract. Assumes nothing.
 use mathlib.Core.Path.{refl, sym, _∙_}
 use mathlib.Core.Bool.{true, false}
 use native.Mathlib.Omega.{arith}
@@ -53,7 +53,7 @@ enum-told c = search needs
 
 returns-3 : tie.Need-returns-3
 unfolding saidIn floatsAfter wholeAfter
-returns-3 c = ask-not _ _ (c .before .before .before .before .before .before .before .before .before .find .ensures .0) (c .before .before .before .before .before .before .before .before .before .find .ensures .1 .0) (c .before .before .before .before .before .before .before .before .before .find .ensures .1 .1) true _ _ _ (sym (c .before .before .before .before .before .before .if3 .taken)) (c .before .before .before .numbers-of .ensures .0 (omega (arith, c .before .before .before .before .before .before .before .if2 .left))) refl (c .enum-told .given .1)
+returns-3 c = ask-not _ _ (c .before .before .before .before .before .before .before .before .before .find .ensures .0) (c .before .before .before .before .before .before .before .before .before .find .ensures .1 .0) (c .before .before .before .before .before .before .before .before .before .find .ensures .1 .1) true _ _ _ (sym (c .before .before .before .before .before .before .if3 .taken)) (c .before .before .before .numbers-of .ensures) (omega (arith, c .before .before .before .before .before .before .before .if2 .left)) refl (c .enum-told .given .1)
 
 sub-parts : tie.Need-sub-parts
 sub-parts c = search needs
@@ -72,7 +72,7 @@ parts-requires c κs = search needs
 
 returns-4 : tie.Need-returns-4
 unfolding answer floatsAfter wholeAfter
-returns-4 c = c .parts .ensures ∙ ask-value _ _ (c .before .before .before .before .before .before .before .before .before .before .before .before .find .ensures .0) (c .before .before .before .before .before .before .before .before .before .before .before .before .find .ensures .1 .0) (c .before .before .before .before .before .before .before .before .before .before .before .before .find .ensures .1 .1) true _ _ _ _ (sym (c .before .before .before .before .before .before .before .before .before .if3 .taken)) (c .before .before .before .before .before .before .numbers-of .ensures .0 (omega (arith, c .before .before .before .before .before .before .before .before .before .before .if2 .left))) refl (c .before .before .before .i .given .1)
+returns-4 c = c .parts .ensures ∙ ask-value _ _ (c .before .before .before .before .before .before .before .before .before .before .before .before .find .ensures .0) (c .before .before .before .before .before .before .before .before .before .before .before .before .find .ensures .1 .0) (c .before .before .before .before .before .before .before .before .before .before .before .before .find .ensures .1 .1) true _ _ _ _ (sym (c .before .before .before .before .before .before .before .before .before .if3 .taken)) (c .before .before .before .before .before .before .numbers-of .ensures) (omega (arith, c .before .before .before .before .before .before .before .before .before .before .if2 .left)) refl (c .before .before .before .i .given .1)
 
 sub-numbers-of-2 : tie.Need-sub-numbers-of-2
 sub-numbers-of-2 c = search needs
@@ -100,7 +100,7 @@ enum-told-3 c = search needs
 
 returns-5 : tie.Need-returns-5
 unfolding saidIn floatsAfter wholeAfter
-returns-5 c = ask-not _ _ (c .before .before .before .before .before .before .before .before .before .find .ensures .0) (c .before .before .before .before .before .before .before .before .before .find .ensures .1 .0) (c .before .before .before .before .before .before .before .before .before .find .ensures .1 .1) false _ _ _ (sym (c .before .before .before .before .before .before .if3 .left)) (c .before .before .before .numbers-of2 .ensures .0 (omega (arith, c .before .before .before .before .before .before .before .if2 .left, c .before .before .before .before .before .before .before .before .if1 .left))) (omega (arith, c .before .before .before .before .before .before .before .before .if1 .left)) (c .enum-told3 .given .1)
+returns-5 c = ask-not _ _ (c .before .before .before .before .before .before .before .before .before .find .ensures .0) (c .before .before .before .before .before .before .before .before .before .find .ensures .1 .0) (c .before .before .before .before .before .before .before .before .before .find .ensures .1 .1) false _ _ _ (sym (c .before .before .before .before .before .before .if3 .left)) (c .before .before .before .numbers-of2 .ensures) (omega (arith, c .before .before .before .before .before .before .before .if2 .left, c .before .before .before .before .before .before .before .before .if1 .left)) (omega (arith, c .before .before .before .before .before .before .before .before .if1 .left)) (c .enum-told3 .given .1)
 
 sub-one : tie.Need-sub-one
 sub-one c = search needs
@@ -116,7 +116,7 @@ one-requires c κs = search needs
 
 returns-6 : tie.Need-returns-6
 unfolding answer floatsAfter wholeAfter
-returns-6 c = c .one .ensures ∙ ask-value _ _ (c .before .before .before .before .before .before .before .before .before .before .before .find .ensures .0) (c .before .before .before .before .before .before .before .before .before .before .before .find .ensures .1 .0) (c .before .before .before .before .before .before .before .before .before .before .before .find .ensures .1 .1) false _ _ _ _ (sym (c .before .before .before .before .before .before .before .before .if3 .left)) (c .before .before .before .before .before .numbers-of2 .ensures .0 (omega (arith, c .before .before .before .before .before .before .before .before .before .if2 .left, c .before .before .before .before .before .before .before .before .before .before .if1 .left))) (omega (arith, c .before .before .before .before .before .before .before .before .before .before .if1 .left)) (c .before .before .enum-told2 .given .1)
+returns-6 c = c .one .ensures ∙ ask-value _ _ (c .before .before .before .before .before .before .before .before .before .before .before .find .ensures .0) (c .before .before .before .before .before .before .before .before .before .before .before .find .ensures .1 .0) (c .before .before .before .before .before .before .before .before .before .before .before .find .ensures .1 .1) false _ _ _ _ (sym (c .before .before .before .before .before .before .before .before .if3 .left)) (c .before .before .before .before .before .numbers-of2 .ensures) (omega (arith, c .before .before .before .before .before .before .before .before .before .if2 .left, c .before .before .before .before .before .before .before .before .before .before .if1 .left)) (omega (arith, c .before .before .before .before .before .before .before .before .before .before .if1 .left)) (c .before .before .enum-told2 .given .1)
 
 pub ask-spec : {M : Type 1} → statement M
 ask-spec =

@@ -25,7 +25,7 @@ parse-requires : tie.Need-parse-requires
 parse-requires c κs = search needs
 
 returns-2 : tie.Need-returns-2
-returns-2 c = ended-short (says (c .before .before .before .before .before .before .args .deep)) _ _ _ _ ((c .before .before .before .before .line-of .ensures .2)) (not-false _ (c .before .before .if1 .left)) ((c .before .before .before .before .line-of .ensures .3)) (c .parse .ensures)
+returns-2 c = ended-short (says (c .before .before .before .before .before .before .args .deep)) _ _ _ _ ((c .before .before .before .before .line-of .ensures .2)) (not-false _ (c .before .before .if1 .left)) ((c .before .before .before .before .line-of .ensures .3)) (c .parse .ensures .0)
 
 pub said-spec : {M : Type 1} → statement M
 said-spec =
