@@ -1,4 +1,4 @@
--- `geometry::axis::axis_distance` meets its contract. Assumes nothing.
+-- `axis::axis_distance` meets its contract. Assumes nothing.
 use mathlib.Core.Path.{_≡_, _∙_}
 use mathlib.Core.Bool.{true, false}
 use lib.Ieee.{Float, binary64, lt, sub}

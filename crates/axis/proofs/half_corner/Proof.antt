@@ -1,4 +1,4 @@
--- `geometry::axis::half_corner` meets its contract. Assumes nothing.
+-- `axis::half_corner` meets its contract. Assumes nothing.
 use mathlib.Core.Path.{_≡_, sym, _∙_, ap}
 use mathlib.Core.Bool.{Bool, true, false}
 use lib.Ieee.{Float}

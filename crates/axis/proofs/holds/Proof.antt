@@ -1,4 +1,4 @@
--- `geometry::axis::holds` meets its contract. Assumes nothing.
+-- `axis::holds` meets its contract. Assumes nothing.
 use mathlib.Core.Path.{refl}
 use Rattle.model.specs.Boxes.{holds}
 use Rattle.axis.proofs.holds.Statement.{statement}

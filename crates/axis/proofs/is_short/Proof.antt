@@ -1,4 +1,4 @@
--- `geometry::axis::is_short` meets its contract. Assumes nothing.
+-- `axis::is_short` meets its contract. Assumes nothing.
 use mathlib.Core.Path.{_≡_, refl}
 use mathlib.Core.Bool.{Bool, true, false, _&&_}
 use lib.Ieee.{Float, nan, inf, fin, binary64, add, lt, ofBits}

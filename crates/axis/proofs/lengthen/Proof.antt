@@ -1,4 +1,4 @@
--- `geometry::axis::lengthen` meets its contract. The invariant: as many steps as are left lead from here to the end. Assumes nothing.
+-- `axis::lengthen` meets its contract. The invariant: as many steps as are left lead from here to the end. Assumes nothing.
 use mathlib.Core.Path.{_≡_, refl, sym, ap, _∙_}
 use mathlib.Core.Bool.{Bool, true, false, not}
 use Prim.Native.Nat.{ℕ, suc, _-_, _≤_}

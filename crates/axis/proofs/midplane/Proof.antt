@@ -1,4 +1,4 @@
--- `geometry::axis::midplane` meets its contract. Assumes nothing.
+-- `axis::midplane` meets its contract. Assumes nothing.
 use mathlib.Core.Path.{ap}
 use lib.Ieee.{Float, binary64, add, div}
 use Rattle.model.specs.Boxes.{mid}

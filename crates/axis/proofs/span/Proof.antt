@@ -1,4 +1,4 @@
--- `geometry::axis::span` meets its contract. Assumes nothing.
+-- `axis::span` meets its contract. Assumes nothing.
 use mathlib.Core.Path.{_≡_, refl, sym, _∙_}
 use mathlib.Core.Bool.{Bool, true, false, not}
 use lib.Ieee.{binary64}

@@ -1,4 +1,4 @@
--- `geometry::axis::touches` meets its contract. Assumes nothing.
+-- `axis::touches` meets its contract. Assumes nothing.
 use mathlib.Core.Path.{refl}
 use Rattle.model.specs.Boxes.{touches}
 use Rattle.axis.proofs.touches.Statement.{statement}

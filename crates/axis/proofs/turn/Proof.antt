@@ -1,4 +1,4 @@
--- `geometry::axis::turn` meets its contract. Assumes nothing.
+-- `axis::turn` meets its contract. Assumes nothing.
 use mathlib.Core.Path.{_≡_, sym, _∙_, ap}
 use mathlib.Core.Bool.{Bool, true, false, cond}
 use native.Mathlib.Omega.{arith}
