@@ -1,4 +1,4 @@
--- `groups::clear` meets its contract. Assumes nothing.
+-- `clearing::clear` meets its contract. Assumes nothing.
 use Rattle.groups.proofs.Walks.{empties}
 use borrow.Author.Needs.{needs}
 use Rattle.clearing.proofs.clear.Statement.{statement}

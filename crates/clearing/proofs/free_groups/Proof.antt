@@ -1,4 +1,4 @@
--- `groups::free_groups` meets its contract. Assumes nothing.
+-- `clearing::free_groups` meets its contract. Assumes nothing.
 use Rattle.groups.proofs.Walks.{given-end, given-go, groups-freed}
 use Rattle.pool.specs.Writes.{givenDown}
 use Rattle.words.specs.Words.{words}

@@ -1,4 +1,4 @@
--- `groups::free_places` meets its contract. Assumes nothing.
+-- `clearing::free_places` meets its contract. Assumes nothing.
 use Rattle.groups.proofs.Walks.{pushed-end, pushed-go, places-freed}
 use Rattle.pool.specs.Writes.{pushedDown}
 use Rattle.words.specs.Words.{words}

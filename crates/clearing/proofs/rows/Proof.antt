@@ -1,4 +1,4 @@
--- `groups::rows` meets its contract. Assumes nothing.
+-- `clearing::rows` meets its contract. Assumes nothing.
 use Rattle.groups.proofs.Walks.{rows-none}
 use borrow.Author.Needs.{needs}
 use Rattle.clearing.proofs.rows.Statement.{statement}

@@ -1,4 +1,4 @@
--- `pool::give_group` meets its contract. Assumes nothing.
+-- `free::give_group` meets its contract. Assumes nothing.
 use Rattle.pool.proofs.Steps.{gives-group}
 use borrow.Author.Needs.{needs}
 use Rattle.free.proofs.give_group.Statement.{statement}

@@ -1,4 +1,4 @@
--- `pool::give_place` meets its contract. Assumes nothing.
+-- `free::give_place` meets its contract. Assumes nothing.
 use Rattle.pool.proofs.Steps.{gives-place}
 use borrow.Author.Needs.{needs}
 use Rattle.free.proofs.give_place.Statement.{statement}

@@ -1,4 +1,4 @@
--- `pool::take_group` meets its contract. Assumes nothing.
+-- `free::take_group` meets its contract. Assumes nothing.
 use Rattle.pool.proofs.Steps.{takes-group}
 use borrow.Author.Needs.{needs}
 use Rattle.free.proofs.take_group.Statement.{statement}

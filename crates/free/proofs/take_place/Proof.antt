@@ -1,4 +1,4 @@
--- `pool::take_place` meets its contract. Assumes nothing.
+-- `free::take_place` meets its contract. Assumes nothing.
 use Rattle.pool.proofs.Steps.{takes-place}
 use borrow.Author.Needs.{needs}
 use Rattle.free.proofs.take_place.Statement.{statement}

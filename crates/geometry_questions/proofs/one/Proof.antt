@@ -1,4 +1,4 @@
--- `replay_geometry::question::one` meets its contract. Assumes nothing.
+-- `geometry_questions::one` meets its contract. Assumes nothing.
 use mathlib.Core.Path.{_∙_}
 use Rattle.geometry_answers.specs.Shown.{saidIn}
 use Rattle.geometry_questions.proofs.Tests.{is-next, is-span, is-mid, is-axis, after-one}

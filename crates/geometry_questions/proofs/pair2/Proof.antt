@@ -1,4 +1,4 @@
--- `replay_geometry::question::pair2` meets its contract. Assumes nothing.
+-- `geometry_questions::pair2` meets its contract. Assumes nothing.
 use mathlib.Core.Path.{_∙_}
 use Rattle.geometry_answers.specs.Shown.{saidIn}
 use Rattle.geometry_questions.proofs.Tests.{is-squared2, is-same2, after-pair2}

@@ -1,4 +1,4 @@
--- `replay_geometry::question::pair3` meets its contract. Assumes nothing.
+-- `geometry_questions::pair3` meets its contract. Assumes nothing.
 use Rattle.geometry_answers.specs.Shown.{saidIn}
 use Rattle.geometry_questions.proofs.Tests.{is-squared3, is-same3, after-pair3}
 use borrow.Author.Needs.{needs}

@@ -1,4 +1,4 @@
--- `replay_geometry::question::parts` meets its contract. Assumes nothing.
+-- `geometry_questions::parts` meets its contract. Assumes nothing.
 use Rattle.geometry_answers.specs.Shown.{saidIn}
 use Rattle.geometry_questions.proofs.Tests.{is-part2, is-part3, after-parts}
 use borrow.Author.Needs.{needs}

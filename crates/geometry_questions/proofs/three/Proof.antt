@@ -1,4 +1,4 @@
--- `replay_geometry::question::three` meets its contract. Assumes nothing.
+-- `geometry_questions::three` meets its contract. Assumes nothing.
 use mathlib.Core.Path.{_∙_}
 use Rattle.geometry_answers.specs.Shown.{saidIn}
 use Rattle.geometry_questions.proofs.Tests.{is-inside3, is-route3, is-node3, is-meets3, after-three}

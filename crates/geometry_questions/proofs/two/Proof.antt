@@ -1,4 +1,4 @@
--- `replay_geometry::question::two` meets its contract. Assumes nothing.
+-- `geometry_questions::two` meets its contract. Assumes nothing.
 use mathlib.Core.Path.{_∙_}
 use Rattle.geometry_answers.specs.Shown.{saidIn}
 use Rattle.geometry_questions.proofs.Tests.{is-inside2, is-route2, is-node2, is-meets2, after-two}

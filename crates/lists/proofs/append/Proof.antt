@@ -1,4 +1,4 @@
--- `pool::append` meets its contract. Assumes nothing.
+-- `lists::append` meets its contract. Assumes nothing.
 use Rattle.pool.proofs.Steps.{appends-first, appends-later}
 use borrow.Author.Needs.{needs}
 use Rattle.lists.proofs.append.Statement.{statement}

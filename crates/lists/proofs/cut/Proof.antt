@@ -1,4 +1,4 @@
--- `pool::cut` meets its contract. Assumes nothing.
+-- `lists::cut` meets its contract. Assumes nothing.
 use Rattle.pool.proofs.Steps.{cuts-first, cuts-later}
 use borrow.Author.Needs.{needs}
 use Rattle.lists.proofs.cut.Statement.{statement}

@@ -1,4 +1,4 @@
--- `pool::end_with` meets its contract. Assumes nothing.
+-- `lists::end_with` meets its contract. Assumes nothing.
 use Rattle.pool.proofs.Steps.{ends}
 use borrow.Author.Needs.{needs}
 use Rattle.lists.proofs.end_with.Statement.{statement}

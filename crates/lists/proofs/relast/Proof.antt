@@ -1,4 +1,4 @@
--- `pool::relast` meets its contract. Assumes nothing.
+-- `lists::relast` meets its contract. Assumes nothing.
 use Rattle.pool.proofs.Steps.{relast-yes, relast-no}
 use borrow.Author.Needs.{needs}
 use Rattle.lists.proofs.relast.Statement.{statement}
