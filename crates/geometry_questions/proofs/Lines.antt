@@ -19,14 +19,14 @@ use Rattle.record.specs.declared.numbers.Whole.the-variants as whole
 use Rattle.record.proofs.Parts.{rest-is, split-rest}
 use Rattle.record.proofs.Reading.{array-read, numbers-not, numbers-read}
 use Rattle.geometry_answers.specs.Shown.{Said, unknown}
-use Rattle.geometry_questions.specs.Asked.{places, one, two, pair2, three, pair3, parts, answer, told, asked}
+use Rattle.geometry_questions.specs.Asked.{answer, asked, parts, places, questions, table, told}
 
 -- what is answered to the numbers, if there are any
 by-numbers : (child : Bool) (n : ℕ) (w : List ℕ) → Option Numbers → Said
 by-numbers child n w none = unknown
-by-numbers child n w (some m) = answer child n w (sets places 0 (m .floats)) (m .whole)
+by-numbers child n w (some m) = answer (table child (m .whole)) n w (sets places 0 (m .floats))
 
-by-cases : (child : Bool) (n : ℕ) (w : List ℕ) (o : Option Numbers) → by-numbers child n w o ≡ elim o as (λ z. Said) [ none ↦ unknown | some m ↦ answer child n w (sets places 0 (m .floats)) (m .whole) ]
+by-cases : (child : Bool) (n : ℕ) (w : List ℕ) (o : Option Numbers) → by-numbers child n w o ≡ elim o as (λ z. Said) [ none ↦ unknown | some m ↦ answer (table child (m .whole)) n w (sets places 0 (m .floats)) ]
 unfolding by-numbers
 by-cases child n w none = refl
 by-cases child n w (some m) = refl
@@ -38,8 +38,8 @@ told-by child w s e =
     (by-cases (ltb 0 (length s % 17)) (length s / 17) w (numbersOf (length s / 17) (ltb 0 (length s % 17)) (rest s)))
 
 -- no question has so many numbers
-none-asks : (child : Bool) (n : ℕ) (w : List ℕ) (v : List Float) (i : ℕ) → ((k : ℕ) → 1 ≤ k → k ≤ 12 → eqb n k ≡ false) → unknown ≡ answer child n w v i
-unfolding answer one two pair2 three pair3 parts
+none-asks : (child : Bool) (n : ℕ) (w : List ℕ) (v : List Float) (i : ℕ) → ((k : ℕ) → 1 ≤ k → k ≤ 12 → eqb n k ≡ false) → unknown ≡ answer (table child i) n w v
+unfolding answer questions parts
 none-asks true n w v i h = simp (h 4 (omega arith) (omega arith), h 6 (omega arith) (omega arith))
 none-asks false n w v i h = simp (h 1 (omega arith) (omega arith), h 2 (omega arith) (omega arith), h 3 (omega arith) (omega arith), h 4 (omega arith) (omega arith), h 6 (omega arith) (omega arith), h 8 (omega arith) (omega arith), h 9 (omega arith) (omega arith), h 12 (omega arith) (omega arith))
 
@@ -67,10 +67,10 @@ module _ (s : List ℕ) (e : ℕ) (within : e ≤ length s) (first : (k : ℕ) �
       subst (λ (t : Whole). Reads ((length s - e) / 17) child (rest (drop e s)) t places v) q
       (subst (λ (t : List ℕ). Reads ((length s - e) / 17) child (rest t) r places v) (rest-is s e) (subst (λ (m : ℕ). Reads m child (rest (take (length s - e) (drop e s))) r places v) c g))
 
-  pub ask-value : (child : Bool) (count : ℕ) (r : Whole) (v : List Float) (k : ℕ) → child ≡ ltb 0 ((length s - e) % 17) → Reads count child (rest (take (length s - e) (drop e s))) r places v → count ≤ 12 → count ≡ (length s - e) / 17 → r ≡ whole.Value k → answer child ((length s - e) / 17) (take (e - 0) s) v k ≡ asked s
+  pub ask-value : (child : Bool) (count : ℕ) (r : Whole) (v : List Float) (k : ℕ) → child ≡ ltb 0 ((length s - e) % 17) → Reads count child (rest (take (length s - e) (drop e s))) r places v → count ≤ 12 → count ≡ (length s - e) / 17 → r ≡ whole.Value k → answer (table child k) ((length s - e) / 17) (take (e - 0) s) v ≡ asked s
   unfolding by-numbers
   ask-value child count r v k h g room c q =
-      ap (λ (l : List Float). answer child n (take (e - 0) s) l k) (array-read n child fs places v small (whole.Value k) read)
+      ap (λ (l : List Float). answer (table child k) n (take (e - 0) s) l) (array-read n child fs places v small (whole.Value k) read)
       ∙ ap (by-numbers child n (take (e - 0) s)) (sym (numbers-read n child fs places v small k read)) ∙ heard child h
     where
       n : ℕ

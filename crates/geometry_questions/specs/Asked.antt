@@ -86,59 +86,49 @@ place3 v k = at v k ∷ at v (k + 1) ∷ at v (k + 2) ∷ []
 abbrev pub box3 : List Float → ℕ → List Side
 box3 v k = side (at v k) (at v (k + 3)) ∷ side (at v (k + 1)) (at v (k + 4)) ∷ side (at v (k + 2)) (at v (k + 5)) ∷ []
 
--- ---- answers: n is how many numbers there are, w the word
--- two places of three axes
-unfoldable pub pair3 : ℕ → List ℕ → List Float → Said
-unfolding same squared samePlace
-pair3 n w v =
-    cond (eqb n 6 && same w word-squared3) (number (squared (place3 v 0) (place3 v 3)))
-    (cond (eqb n 6 && same w word-same3) (yes (samePlace (place3 v 0) (place3 v 3))) unknown)
+-- ---- questions: a word, how many numbers stand after it, and what is answered to them
+pub record Question : Type 0 where
+  pub word : List ℕ
+  pub count : ℕ
+  pub says : List Float → Said
 
--- a box of three axes and a place, or two boxes, and otherwise two places
-unfoldable pub three : ℕ → List ℕ → List Float → Said
-unfolding same inside route nodeDistance meets pair3
-three n w v =
-    cond (eqb n 9 && same w word-inside3) (yes (inside (box3 v 0) (place3 v 6)))
-    (cond (eqb n 9 && same w word-route3) (child (route (box3 v 0) (place3 v 6)))
-    (cond (eqb n 9 && same w word-node3) (number (nodeDistance (box3 v 0) (place3 v 6)))
-    (cond (eqb n 12 && same w word-meets3) (yes (meets (box3 v 0) (box3 v 6))) (pair3 n w v))))
+abbrev pub asks : List ℕ → ℕ → (List Float → Said) → Question
+asks w n f = record { word = w; count = n; says = f }
 
--- two places of two axes, and otherwise three axes
-unfoldable pub pair2 : ℕ → List ℕ → List Float → Said
-unfolding same squared samePlace three
-pair2 n w v =
-    cond (eqb n 4 && same w word-squared2) (number (squared (place2 v 0) (place2 v 2)))
-    (cond (eqb n 4 && same w word-same2) (yes (samePlace (place2 v 0) (place2 v 2))) (three n w v))
-
--- a box of two axes and a place, or two boxes, and otherwise two places
-unfoldable pub two : ℕ → List ℕ → List Float → Said
-unfolding same inside route nodeDistance meets pair2
-two n w v =
-    cond (eqb n 6 && same w word-inside2) (yes (inside (box2 v 0) (place2 v 4)))
-    (cond (eqb n 6 && same w word-route2) (child (route (box2 v 0) (place2 v 4)))
-    (cond (eqb n 6 && same w word-node2) (number (nodeDistance (box2 v 0) (place2 v 4)))
-    (cond (eqb n 8 && same w word-meets2) (yes (meets (box2 v 0) (box2 v 4))) (pair2 n w v))))
-
--- one axis, and otherwise more
-unfoldable pub one : ℕ → List ℕ → List Float → Said
-unfolding same nextUp span mid axisDistance two
-one n w v =
-    cond (eqb n 1 && same w word-next) (number (nextUp binary64 (at v 0)))
-    (cond (eqb n 2 && same w word-span) (number (span binary64 (at v 0) (at v 1)))
-    (cond (eqb n 2 && same w word-mid) (number (mid (side (at v 0) (at v 1))))
-    (cond (eqb n 3 && same w word-axis) (number (axisDistance (side (at v 1) (at v 2)) (at v 0))) (two n w v))))
+-- one axis, two axes, three axes
+unfoldable pub questions : List Question
+questions =
+    asks word-next 1 (λ v. number (nextUp binary64 (at v 0)))
+    ∷ asks word-span 2 (λ v. number (span binary64 (at v 0) (at v 1)))
+    ∷ asks word-mid 2 (λ v. number (mid (side (at v 0) (at v 1))))
+    ∷ asks word-axis 3 (λ v. number (axisDistance (side (at v 1) (at v 2)) (at v 0)))
+    ∷ asks word-inside2 6 (λ v. yes (inside (box2 v 0) (place2 v 4)))
+    ∷ asks word-route2 6 (λ v. child (route (box2 v 0) (place2 v 4)))
+    ∷ asks word-node2 6 (λ v. number (nodeDistance (box2 v 0) (place2 v 4)))
+    ∷ asks word-meets2 8 (λ v. yes (meets (box2 v 0) (box2 v 4)))
+    ∷ asks word-squared2 4 (λ v. number (squared (place2 v 0) (place2 v 2)))
+    ∷ asks word-same2 4 (λ v. yes (samePlace (place2 v 0) (place2 v 2)))
+    ∷ asks word-inside3 9 (λ v. yes (inside (box3 v 0) (place3 v 6)))
+    ∷ asks word-route3 9 (λ v. child (route (box3 v 0) (place3 v 6)))
+    ∷ asks word-node3 9 (λ v. number (nodeDistance (box3 v 0) (place3 v 6)))
+    ∷ asks word-meets3 12 (λ v. yes (meets (box3 v 0) (box3 v 6)))
+    ∷ asks word-squared3 6 (λ v. number (squared (place3 v 0) (place3 v 3)))
+    ∷ asks word-same3 6 (λ v. yes (samePlace (place3 v 0) (place3 v 3)))
+    ∷ []
 
 -- with a child's number: its box
-unfoldable pub parts : ℕ → List ℕ → List Float → ℕ → Said
-unfolding same boxed part
-parts n w v i =
-    cond (eqb n 4 && same w word-part2) (boxed (part (box2 v 0) i))
-    (cond (eqb n 6 && same w word-part3) (boxed (part (box3 v 0) i)) unknown)
+unfoldable pub parts : (i : ℕ) → List Question
+parts i = asks word-part2 4 (λ v. boxed (part (box2 v 0) i)) ∷ asks word-part3 6 (λ v. boxed (part (box3 v 0) i)) ∷ []
 
-unfoldable pub answer : (child : Bool) → ℕ → List ℕ → List Float → ℕ → Said
-unfolding one parts
-answer true n w v i = parts n w v i
-answer false n w v i = one n w v
+abbrev pub table : (child : Bool) (i : ℕ) → List Question
+table true i = parts i
+table false i = questions
+
+-- what is answered to a word with n numbers, by the first question that it is
+unfoldable pub answer : List Question → ℕ → List ℕ → List Float → Said
+unfolding same
+answer [] n w v = unknown
+answer (q ∷ qs) n w v = cond (eqb n (q .count) && same w (q .word)) (q .says v) (answer qs n w v)
 
 -- ---- lines
 -- The numbers stand at the front of 12 places; no question asks for more than there are.
@@ -147,11 +137,11 @@ places = replicate {A = Float} 12 (ofBits binary64 0)
 
 -- what is answered to a word and what stands after it. A float takes 17 bytes with its comma; what is left after the floats is a comma and a child's number
 unfoldable pub told : List ℕ → List ℕ → Said
-unfolding numbersOf rest answer
+unfolding numbersOf rest questions parts answer
 told w s =
     elim (numbersOf (length s / 17) (ltb 0 (length s % 17)) (rest s)) [
       | none ↦ unknown
-      | some m ↦ answer (ltb 0 (length s % 17)) (length s / 17) w (sets places 0 (m .floats)) (m .whole)
+      | some m ↦ answer (table (ltb 0 (length s % 17)) (m .whole)) (length s / 17) w (sets places 0 (m .floats))
     ]
 
 -- the word is the first field

@@ -1,5 +1,6 @@
 // A line as a question: its word, its numbers, and what the geometry answers.
 ghost use mathlib.Core.Path.{_≡_};
+ghost use lib.ListN.{drop};
 ghost use Rattle.geometry_answers.specs.Shown.{saidIn};
 ghost use Rattle.geometry_questions.specs.Asked as Asked;
 use fields::find;
@@ -14,7 +15,7 @@ use record::numbers::Whole;
 
 // Two points of three axes.
 fn pair3(word: &[u8], n: usize, v: [f64; 12]) -> Answer
-    ensures { λ r. ⌜ saidIn r ≡ Asked.pair3 n (now (word .entry)) v ⌝ }
+    ensures { λ r. ⌜ saidIn r ≡ Asked.answer (drop 14 Asked.questions) n (now (word .entry)) v ⌝ }
 {
     let p = Point3D {
         x: v[0],
@@ -37,7 +38,7 @@ fn pair3(word: &[u8], n: usize, v: [f64; 12]) -> Answer
 
 // A cube and a point, or two cubes, and otherwise two points.
 fn three(word: &[u8], n: usize, v: [f64; 12]) -> Answer
-    ensures { λ r. ⌜ saidIn r ≡ Asked.three n (now (word .entry)) v ⌝ }
+    ensures { λ r. ⌜ saidIn r ≡ Asked.answer (drop 10 Asked.questions) n (now (word .entry)) v ⌝ }
 {
     let a = Cube {
         x: v[0],
@@ -77,7 +78,7 @@ fn three(word: &[u8], n: usize, v: [f64; 12]) -> Answer
 
 // Two points of two axes, and otherwise three axes.
 fn pair2(word: &[u8], n: usize, v: [f64; 12]) -> Answer
-    ensures { λ r. ⌜ saidIn r ≡ Asked.pair2 n (now (word .entry)) v ⌝ }
+    ensures { λ r. ⌜ saidIn r ≡ Asked.answer (drop 8 Asked.questions) n (now (word .entry)) v ⌝ }
 {
     let p = Point2D { x: v[0], y: v[1] };
     let q = Point2D { x: v[2], y: v[3] };
@@ -92,7 +93,7 @@ fn pair2(word: &[u8], n: usize, v: [f64; 12]) -> Answer
 
 // A rectangle and a point, or two rectangles, and otherwise two points.
 fn two(word: &[u8], n: usize, v: [f64; 12]) -> Answer
-    ensures { λ r. ⌜ saidIn r ≡ Asked.two n (now (word .entry)) v ⌝ }
+    ensures { λ r. ⌜ saidIn r ≡ Asked.answer (drop 4 Asked.questions) n (now (word .entry)) v ⌝ }
 {
     let a = Rectangle {
         x: v[0],
@@ -124,7 +125,7 @@ fn two(word: &[u8], n: usize, v: [f64; 12]) -> Answer
 
 // One axis, and otherwise more.
 fn one(word: &[u8], n: usize, v: [f64; 12]) -> Answer
-    ensures { λ r. ⌜ saidIn r ≡ Asked.one n (now (word .entry)) v ⌝ }
+    ensures { λ r. ⌜ saidIn r ≡ Asked.answer Asked.questions n (now (word .entry)) v ⌝ }
 {
     if (n == 1) & check::same(word, b"next") {
         return Answer::Number(floats::next_up(v[0]));
@@ -143,7 +144,7 @@ fn one(word: &[u8], n: usize, v: [f64; 12]) -> Answer
 
 // A box and a child's number.
 fn parts(word: &[u8], n: usize, v: [f64; 12], i: usize) -> Answer
-    ensures { λ r. ⌜ saidIn r ≡ Asked.parts n (now (word .entry)) v i ⌝ }
+    ensures { λ r. ⌜ saidIn r ≡ Asked.answer (Asked.parts i) n (now (word .entry)) v ⌝ }
 {
     let a = Rectangle {
         x: v[0],

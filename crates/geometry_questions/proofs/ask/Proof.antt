@@ -4,7 +4,6 @@ use mathlib.Core.Bool.{true, false}
 use native.Mathlib.Omega.{arith}
 use Rattle.record.specs.Commands.{floatsAfter, wholeAfter}
 use Rattle.geometry_answers.specs.Shown.{saidIn}
-use Rattle.geometry_questions.specs.Asked.{answer}
 use Rattle.geometry_questions.proofs.Lines.{ask-none, ask-not, ask-value}
 use borrow.Author.Needs.{needs}
 use Rattle.geometry_questions.proofs.ask.Statement.{statement}
@@ -71,7 +70,7 @@ parts-requires : tie.Need-parts-requires
 parts-requires c κs = search needs
 
 returns-4 : tie.Need-returns-4
-unfolding answer floatsAfter wholeAfter
+unfolding floatsAfter wholeAfter
 returns-4 c = c .parts .ensures ∙ ask-value _ _ (c .before .before .before .before .before .before .before .before .before .before .before .before .find .ensures .0) (c .before .before .before .before .before .before .before .before .before .before .before .before .find .ensures .1 .0) (c .before .before .before .before .before .before .before .before .before .before .before .before .find .ensures .1 .1) true _ _ _ _ (sym (c .before .before .before .before .before .before .before .before .before .if3 .taken)) (c .before .before .before .before .before .before .numbers-of .ensures) (omega (arith, c .before .before .before .before .before .before .before .before .before .before .if2 .left)) refl (c .before .before .before .i .given .1)
 
 sub-numbers-of-2 : tie.Need-sub-numbers-of-2
@@ -115,7 +114,7 @@ one-requires : tie.Need-one-requires
 one-requires c κs = search needs
 
 returns-6 : tie.Need-returns-6
-unfolding answer floatsAfter wholeAfter
+unfolding floatsAfter wholeAfter
 returns-6 c = c .one .ensures ∙ ask-value _ _ (c .before .before .before .before .before .before .before .before .before .before .before .find .ensures .0) (c .before .before .before .before .before .before .before .before .before .before .before .find .ensures .1 .0) (c .before .before .before .before .before .before .before .before .before .before .before .find .ensures .1 .1) false _ _ _ _ (sym (c .before .before .before .before .before .before .before .before .if3 .left)) (c .before .before .before .before .before .numbers-of2 .ensures) (omega (arith, c .before .before .before .before .before .before .before .before .before .if2 .left, c .before .before .before .before .before .before .before .before .before .before .if1 .left)) (omega (arith, c .before .before .before .before .before .before .before .before .before .before .if1 .left)) (c .before .before .enum-told2 .given .1)
 
 pub ask-spec : {M : Type 1} → statement M

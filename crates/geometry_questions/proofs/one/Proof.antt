@@ -1,7 +1,10 @@
 -- `geometry_questions::one` meets its contract. Assumes nothing.
-use mathlib.Core.Path.{_∙_}
-use Rattle.geometry_answers.specs.Shown.{saidIn}
-use Rattle.geometry_questions.proofs.Tests.{is-next, is-span, is-mid, is-axis, after-one}
+use mathlib.Core.Path.{refl, ap, _∙_}
+use lib.Ieee.{Float}
+use Rattle.record.specs.Text.{same}
+use Rattle.geometry_answers.specs.Shown.{saidIn, number}
+use Rattle.geometry_questions.specs.Asked.{questions}
+use Rattle.geometry_questions.proofs.Tests.{met, past}
 use borrow.Author.Needs.{needs}
 use Rattle.geometry_questions.proofs.one.Statement.{statement}
 use Rattle.geometry_questions.proofs.one.Tie as tie
@@ -19,8 +22,8 @@ next-up-requires : tie.Need-next-up-requires
 next-up-requires c κs = search needs
 
 returns : tie.Need-returns
-unfolding saidIn
-returns c = is-next _ _ _ _ _ (c .next-up .ensures) (c .before .before .same .ensures .0) (c .before .if1 .taken)
+unfolding saidIn questions same
+returns c = met questions 0 _ _ _ _ refl (ap (λ (y : Float). number y) (c .next-up .ensures)) (c .before .before .same .ensures .0) (c .before .if1 .taken)
 
 slice-aggregate-same-2 : tie.Need-slice-aggregate-same-2
 slice-aggregate-same-2 c = search needs
@@ -38,8 +41,8 @@ span-requires : tie.Need-span-requires
 span-requires c κs = search needs
 
 returns-2 : tie.Need-returns-2
-unfolding saidIn
-returns-2 c = is-span _ _ _ _ _ (c .span .ensures) (c .before .before .same2 .ensures .0) (c .before .if2 .taken)
+unfolding saidIn questions same
+returns-2 c = met questions 1 _ _ _ _ refl (ap (λ (y : Float). number y) (c .span .ensures)) (c .before .before .same2 .ensures .0) (c .before .if2 .taken)
 
 slice-aggregate-same-3 : tie.Need-slice-aggregate-same-3
 slice-aggregate-same-3 c = search needs
@@ -57,8 +60,8 @@ midplane-requires : tie.Need-midplane-requires
 midplane-requires c κs = search needs
 
 returns-3 : tie.Need-returns-3
-unfolding saidIn
-returns-3 c = is-mid _ _ _ _ _ (c .midplane .ensures) (c .before .before .same3 .ensures .0) (c .before .if3 .taken)
+unfolding saidIn questions same
+returns-3 c = met questions 2 _ _ _ _ refl (ap (λ (y : Float). number y) (c .midplane .ensures)) (c .before .before .same3 .ensures .0) (c .before .if3 .taken)
 
 slice-aggregate-same-4 : tie.Need-slice-aggregate-same-4
 slice-aggregate-same-4 c = search needs
@@ -79,19 +82,20 @@ axis-distance-requires : tie.Need-axis-distance-requires
 axis-distance-requires c κs = search needs
 
 returns-4 : tie.Need-returns-4
-unfolding saidIn
-returns-4 c = is-axis _ _ _ _ _ (c .axis-distance .ensures) (c .before .before .same4 .ensures .0) (c .before .if4 .taken)
+unfolding saidIn questions same
+returns-4 c = met questions 3 _ _ _ _ refl (ap (λ (y : Float). number y) (c .axis-distance .ensures)) (c .before .before .same4 .ensures .0) (c .before .if4 .taken)
 
 two-requires : tie.Need-two-requires
 two-requires c κs = search needs
 
 returns-5 : tie.Need-returns-5
+unfolding questions
 returns-5 c =
-    c .two .ensures ∙ after-one _ _ _ _ _ _ _
-    (c .before .before .before .before .before .before .before .before .before .before .before .same .ensures .1) (c .before .before .before .before .before .before .before .before .before .before .if1 .left)
-    (c .before .before .before .before .before .before .before .before .same2 .ensures .1) (c .before .before .before .before .before .before .before .if2 .left)
-    (c .before .before .before .before .before .same3 .ensures .1) (c .before .before .before .before .if3 .left)
-    (c .before .before .same4 .ensures .1) (c .before .if4 .left)
+    c .two .ensures
+    ∙ past questions 3 _ _ _ _ (c .before .before .same4 .ensures .1) (c .before .if4 .left)
+    ∙ past questions 2 _ _ _ _ (c .before .before .before .before .before .same3 .ensures .1) (c .before .before .before .before .if3 .left)
+    ∙ past questions 1 _ _ _ _ (c .before .before .before .before .before .before .before .before .same2 .ensures .1) (c .before .before .before .before .before .before .before .if2 .left)
+    ∙ past questions 0 _ _ _ _ (c .before .before .before .before .before .before .before .before .before .before .before .same .ensures .1) (c .before .before .before .before .before .before .before .before .before .before .if1 .left)
 
 pub one-spec : {M : Type 1} → statement M
 one-spec =

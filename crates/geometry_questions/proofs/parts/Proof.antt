@@ -1,6 +1,9 @@
 -- `geometry_questions::parts` meets its contract. Assumes nothing.
-use Rattle.geometry_answers.specs.Shown.{saidIn}
-use Rattle.geometry_questions.proofs.Tests.{is-part2, is-part3, after-parts}
+use mathlib.Core.Path.{refl, ap, _∙_}
+use Rattle.record.specs.Text.{same}
+use Rattle.geometry_answers.specs.Shown.{saidIn, boxed}
+use Rattle.geometry_questions.specs.Asked.{parts}
+use Rattle.geometry_questions.proofs.Tests.{met, no-more, past}
 use borrow.Author.Needs.{needs}
 use Rattle.geometry_questions.proofs.parts.Statement.{statement}
 use Rattle.geometry_questions.proofs.parts.Tie as tie
@@ -45,8 +48,8 @@ child-requires : tie.Need-child-requires
 child-requires c κs = search needs
 
 returns : tie.Need-returns
-unfolding saidIn
-returns c = is-part2 _ _ _ _ _ _ (c .child .ensures) (c .before .before .same .ensures .0) (c .before .if1 .taken)
+unfolding saidIn parts same
+returns c = met (parts _) 0 _ _ _ _ refl (ap boxed (c .child .ensures)) (c .before .before .same .ensures .0) (c .before .if1 .taken)
 
 slice-aggregate-same-2 : tie.Need-slice-aggregate-same-2
 slice-aggregate-same-2 c = search needs
@@ -58,15 +61,15 @@ child-requires-2 : tie.Need-child-requires-2
 child-requires-2 c κs = search needs
 
 returns-2 : tie.Need-returns-2
-unfolding saidIn
-returns-2 c = is-part3 _ _ _ _ _ _ (c .child2 .ensures) (c .before .before .same2 .ensures .0) (c .before .if2 .taken)
+unfolding saidIn parts same
+returns-2 c = met (parts _) 1 _ _ _ _ refl (ap boxed (c .child2 .ensures)) (c .before .before .same2 .ensures .0) (c .before .if2 .taken)
 
 returns-3 : tie.Need-returns-3
-unfolding saidIn
+unfolding saidIn parts
 returns-3 c =
-    after-parts _ _ _ _ _ _
-    (c .before .before .before .before .same .ensures .1) (c .before .before .before .if1 .left)
-    (c .before .same2 .ensures .1) (c .if2 .left)
+    no-more _ _ _
+    ∙ past (parts _) 1 _ _ _ _ (c .before .same2 .ensures .1) (c .if2 .left)
+    ∙ past (parts _) 0 _ _ _ _ (c .before .before .before .before .same .ensures .1) (c .before .before .before .if1 .left)
 
 pub parts-spec : {M : Type 1} → statement M
 parts-spec =

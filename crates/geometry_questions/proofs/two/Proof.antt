@@ -1,7 +1,13 @@
 -- `geometry_questions::two` meets its contract. Assumes nothing.
-use mathlib.Core.Path.{_∙_}
-use Rattle.geometry_answers.specs.Shown.{saidIn}
-use Rattle.geometry_questions.proofs.Tests.{is-inside2, is-route2, is-node2, is-meets2, after-two}
+use Prim.Native.Nat.{ℕ}
+use mathlib.Core.Path.{refl, ap, _∙_}
+use mathlib.Core.Bool.{Bool}
+use lib.Ieee.{Float}
+use lib.ListN.{drop}
+use Rattle.record.specs.Text.{same}
+use Rattle.geometry_answers.specs.Shown.{saidIn, child, number, yes}
+use Rattle.geometry_questions.specs.Asked.{questions}
+use Rattle.geometry_questions.proofs.Tests.{met, past}
 use borrow.Author.Needs.{needs}
 use Rattle.geometry_questions.proofs.two.Statement.{statement}
 use Rattle.geometry_questions.proofs.two.Tie as tie
@@ -40,8 +46,8 @@ contains-requires : tie.Need-contains-requires
 contains-requires c κs = search needs
 
 returns : tie.Need-returns
-unfolding saidIn
-returns c = is-inside2 _ _ _ _ _ (c .contains .ensures) (c .before .before .same .ensures .0) (c .before .if1 .taken)
+unfolding saidIn questions same
+returns c = met (drop 4 questions) 0 _ _ _ _ refl (ap (λ (y : Bool). yes y) (c .contains .ensures)) (c .before .before .same .ensures .0) (c .before .if1 .taken)
 
 slice-aggregate-same-2 : tie.Need-slice-aggregate-same-2
 slice-aggregate-same-2 c = search needs
@@ -53,8 +59,8 @@ child-index-requires : tie.Need-child-index-requires
 child-index-requires c κs = search needs
 
 returns-2 : tie.Need-returns-2
-unfolding saidIn
-returns-2 c = is-route2 _ _ _ _ _ (c .child-index .ensures) (c .before .before .same2 .ensures .0) (c .before .if2 .taken)
+unfolding saidIn questions same
+returns-2 c = met (drop 4 questions) 1 _ _ _ _ refl (ap (λ (y : ℕ). child y) (c .child-index .ensures)) (c .before .before .same2 .ensures .0) (c .before .if2 .taken)
 
 slice-aggregate-same-3 : tie.Need-slice-aggregate-same-3
 slice-aggregate-same-3 c = search needs
@@ -66,8 +72,8 @@ min-distance-sq-requires : tie.Need-min-distance-sq-requires
 min-distance-sq-requires c κs = search needs
 
 returns-3 : tie.Need-returns-3
-unfolding saidIn
-returns-3 c = is-node2 _ _ _ _ _ (c .min-distance-sq .ensures) (c .before .before .same3 .ensures .0) (c .before .if3 .taken)
+unfolding saidIn questions same
+returns-3 c = met (drop 4 questions) 2 _ _ _ _ refl (ap (λ (y : Float). number y) (c .min-distance-sq .ensures)) (c .before .before .same3 .ensures .0) (c .before .if3 .taken)
 
 slice-aggregate-same-4 : tie.Need-slice-aggregate-same-4
 slice-aggregate-same-4 c = search needs
@@ -79,19 +85,20 @@ intersects-requires : tie.Need-intersects-requires
 intersects-requires c κs = search needs
 
 returns-4 : tie.Need-returns-4
-unfolding saidIn
-returns-4 c = is-meets2 _ _ _ _ _ (c .intersects .ensures) (c .before .before .same4 .ensures .0) (c .before .if4 .taken)
+unfolding saidIn questions same
+returns-4 c = met (drop 4 questions) 3 _ _ _ _ refl (ap (λ (y : Bool). yes y) (c .intersects .ensures)) (c .before .before .same4 .ensures .0) (c .before .if4 .taken)
 
 pair2-requires : tie.Need-pair2-requires
 pair2-requires c κs = search needs
 
 returns-5 : tie.Need-returns-5
+unfolding questions
 returns-5 c =
-    c .pair2 .ensures ∙ after-two _ _ _ _ _ _ _
-    (c .before .before .before .before .before .before .before .before .before .before .before .same .ensures .1) (c .before .before .before .before .before .before .before .before .before .before .if1 .left)
-    (c .before .before .before .before .before .before .before .before .same2 .ensures .1) (c .before .before .before .before .before .before .before .if2 .left)
-    (c .before .before .before .before .before .same3 .ensures .1) (c .before .before .before .before .if3 .left)
-    (c .before .before .same4 .ensures .1) (c .before .if4 .left)
+    c .pair2 .ensures
+    ∙ past (drop 4 questions) 3 _ _ _ _ (c .before .before .same4 .ensures .1) (c .before .if4 .left)
+    ∙ past (drop 4 questions) 2 _ _ _ _ (c .before .before .before .before .before .same3 .ensures .1) (c .before .before .before .before .if3 .left)
+    ∙ past (drop 4 questions) 1 _ _ _ _ (c .before .before .before .before .before .before .before .before .same2 .ensures .1) (c .before .before .before .before .before .before .before .if2 .left)
+    ∙ past (drop 4 questions) 0 _ _ _ _ (c .before .before .before .before .before .before .before .before .before .before .before .same .ensures .1) (c .before .before .before .before .before .before .before .before .before .before .if1 .left)
 
 pub two-spec : {M : Type 1} → statement M
 two-spec =
