@@ -1,4 +1,4 @@
--- `replay_geometry::answer::glyph` meets its contract. Assumes nothing.
+-- `geometry_answers::glyph` meets its contract. Assumes nothing.
 use borrow.Author.Needs.{needs}
 use Rattle.geometry_answers.proofs.Texts.{glyph-low, glyph-high}
 use Rattle.geometry_answers.proofs.glyph.Statement.{statement}

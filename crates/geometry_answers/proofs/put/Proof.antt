@@ -1,4 +1,4 @@
--- `replay_geometry::answer::put` meets its contract. Assumes nothing.
+-- `geometry_answers::put` meets its contract. Assumes nothing.
 use Prim.Native.Nat.{_≤_}
 use mathlib.Core.Path.{_≡_, refl, sym, _∙_}
 use lib.ListN.{length}

@@ -1,4 +1,4 @@
--- `replay_geometry::answer::show` meets its contract. Assumes nothing.
+-- `geometry_answers::show` meets its contract. Assumes nothing.
 use mathlib.Core.Path.{sym, _∙_}
 use native.Mathlib.Omega.{arith}
 use Rattle.geometry_answers.specs.Shown.{saidIn, shown}
