@@ -17,7 +17,7 @@ use Rattle.record.proofs.Parts.{rest-is}
 use Rattle.record.proofs.Streams.{records-line, unended-some}
 use Rattle.replies.specs.Lines.{answer, crlf, lines}
 use Rattle.replies.specs.Programs.{Answers, Feeds, Keeps, Puts}
-use Rattle.replies.proofs.Runs.{fed-none, fed-one, fed-then}
+use Rattle.replies.proofs.Fed.{fed-none, fed-one, fed-then}
 use Rattle.replies.proofs.Written.{then, unwritten}
 
 -- ---- room for a line

@@ -4,7 +4,7 @@ pub mod Hexes
 pub mod Points
 pub mod Told
 pub mod Shapes
-pub mod Runs
+pub mod Fed
 pub mod Answers
 pub mod Feeds
 pub mod Starts

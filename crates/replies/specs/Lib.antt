@@ -2,4 +2,3 @@
 pub mod Lines
 pub mod Programs
 pub mod Printed
-pub mod Runs

@@ -13,7 +13,7 @@ use Rattle.record.proofs.Reading.{no}
 use Rattle.record.proofs.Streams.{records-clipped}
 use Rattle.replies.specs.Lines.{answer, lines, state}
 use Rattle.replies.specs.Programs.{Fed, Keeps}
-use Rattle.replies.proofs.Runs.{fed-none, fed-then, lines-append, state-append}
+use Rattle.replies.proofs.Fed.{fed-none, fed-then, lines-append, state-append}
 use Rattle.turns.specs.Places.{Finished, Turns, begin, came, carried, given, goesOn, turn}
 use Rattle.turns.specs.declared.Place.{Place}
 

@@ -1,15 +1,13 @@
--- Laws of records that are answered one after the other: any cutting of the input into chunks prints the same. Over any meaning `of` of one record. Assumes nothing.
+-- Laws of records that are answered one after the other. Over any meaning `of` of one record. Assumes nothing.
 use mathlib.Core.Path.{_≡_, refl, sym, ap, ap₂, _∙_}
-use mathlib.Core.Bool.{Bool, true}
-use mathlib.Core.List.{List, [], _∷_, _++_, append-assoc, append-nil, flatten}
+use mathlib.Core.Bool.{Bool}
+use mathlib.Core.List.{List, [], _∷_, _++_, append-assoc, append-nil}
 use mathlib.Core.Option.{Option}
 use Prim.Native.Nat.{ℕ}
-use Rattle.model.specs.Calls.{Kind, State, Call, broken}
+use Rattle.model.specs.Calls.{Kind, State, Call}
 use Rattle.record.specs.Input.{records}
-use Rattle.record.proofs.Streams.{records-clipped, records-end}
 use Rattle.replies.specs.Lines.{answer, lines, state}
 use Rattle.replies.specs.Programs.{Fed}
-use Rattle.replies.specs.Runs.{Run, chunk, fed, clip, end}
 
 -- ---- lines of many records
 pub lines-append : (k : Kind) (a : State) (xs ys : List (Option Call)) → lines k a (xs ++ ys) ≡ lines k a xs ++ lines k (state k a xs) ys
@@ -44,17 +42,3 @@ module _ (k : Kind) (of : List ℕ → Option Call) where
     printed-is = ap₂ (λ (x y : List ℕ). x ++ y) (f .printed-is) (g .printed-is ∙ ap (λ (x : State). lines k x (g .said)) (f .state-is)) ∙ sym (lines-append k a (f .said) (g .said));
     state-is = g .state-is ∙ ap (λ (x : State). state k x (g .said)) (f .state-is) ∙ sym (state-append k a (f .said) (g .said));
   }
-
-  -- ---- a run
-  pub run-prints : {a : State} {start : Bool} {s : List ℕ} {cs : List (List ℕ)} {out : List ℕ} → Run k of a start s cs out → out ≡ lines k a (records of start (s ++ flatten cs))
-  unfolding flatten
-  run-prints {a} {start} {s} {cs} (chunk {c = c} {cs = ds} r) = run-prints r ∙ ap (λ (l : List ℕ). lines k a (records of start l)) (append-assoc s c (flatten ds))
-  run-prints {a} {start} {s} {cs} (fed {b = b} {next = next} {rest = rest} f r) =
-      ap₂ (λ (x y : List ℕ). x ++ y) (f .printed-is) (run-prints r ∙ ap (λ (x : State). lines k x (records of next (rest ++ flatten cs))) (f .state-is))
-      ∙ sym (lines-append k a (f .said) (records of next (rest ++ flatten cs))) ∙ ap (lines k a) (sym (f .same (flatten cs)))
-  run-prints {a} {start} {s} {cs} (clip h r) = run-prints r ∙ ap (lines k a) (sym (records-clipped of start s (flatten cs) h))
-  run-prints {a} {start} {s} (end h) = ap (lines k a) (sym (records-end of start s h)) ∙ ap (λ (l : List ℕ). lines k a (records of start l)) (sym (append-nil s))
-
-  -- from no tree, at the very start, with nothing carried
-  pub any-cutting : {chunks : List (List ℕ)} {out : List ℕ} → Run k of broken true [] chunks out → out ≡ lines k broken (records of true (flatten chunks))
-  any-cutting r = run-prints r
