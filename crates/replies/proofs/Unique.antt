@@ -1,7 +1,7 @@
--- What `Answers` promises is determined: the line, where it ends, whether a tree is held, and the state of the pieces.
+-- What `Answers` promises is determined: the line, where it ends, whether a tree is held, and the state of the pieces; and each of their bytes, where nothing changes.
 use Prim.Native.Nat.{ℕ}
 use mathlib.Core.Path.{_≡_, sym, _∙_}
-use mathlib.Core.Bool.{Bool}
+use mathlib.Core.Bool.{Bool, false}
 use mathlib.Core.List.{List}
 use mathlib.Core.Option.{Option}
 use Rattle.model.specs.Calls.{Call, Kind, State}
@@ -19,3 +19,8 @@ module _ (k : Kind) (c : Option Call) (held : Bool) (s : Pieces) (a : State) (y 
   pub answers-state : Says k s₁ (answer k a c .state) × Says k s₂ (answer k a c .state)
   unfolding Answers
   answers-state = (f a y .1 .1, g a y .1 .1)
+
+  -- a record that is refused or asks leaves the pieces as they were
+  pub answers-same : answer k a c .changes ≡ false → s₁ ≡ s₂
+  unfolding Answers
+  answers-same e = f a y .2 e ∙ sym (g a y .2 e)

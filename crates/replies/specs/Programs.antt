@@ -1,6 +1,6 @@
 -- What the code of a command program does: bytes written to a lent slice, the tree that its pieces hold, and how far it is in its input. Definitions only.
 use mathlib.Core.Path.{_≡_}
-use mathlib.Core.Bool.{Bool}
+use mathlib.Core.Bool.{Bool, false}
 use mathlib.Core.List.{List, [], _++_}
 use mathlib.Core.Option.{Option}
 use Prim.Native.Nat.{ℕ, _+_, _*_, _≤_, _<_}
@@ -28,10 +28,10 @@ Keeps k held s a = (held ≡ held? a) × Says k s a
 abbrev pub longest : (axes : ℕ) → ℕ
 longest axes = 14 + (17 * axes + 11) * 512
 
--- a record was answered
+-- a record was answered: its line was written, and where it changes nothing the pieces are as before
 unfoldable pub Answers : Kind → Option Call → (held : Bool) → Pieces → (held' : Bool) → Pieces → (out : List ℕ) (at : ℕ) (out' : List ℕ) (r : ℕ) → Type 0
 unfolding answer
-Answers k c held s held' s' out at out' r = (a : State) → Keeps k held s a → Wrote out at (answer k a c .line) out' r × Keeps k held' s' (answer k a c .state)
+Answers k c held s held' s' out at out' r = (a : State) → Keeps k held s a → Wrote out at (answer k a c .line) out' r × Keeps k held' s' (answer k a c .state) × (answer k a c .changes ≡ false → s' ≡ s)
 
 -- The beginning of an input was answered, whatever comes after it: `rest` is left, and is the very start or not.
 pub record Fed (k : Kind) (of : List ℕ → Option Call) (a : State) (start : Bool) (text : List ℕ) (a' : State) (start' : Bool) (rest printed : List ℕ) : Type 0 where
