@@ -8,7 +8,6 @@ use Rattle.model.specs.Calls.{broken, octree}
 use Rattle.model.specs.History.{blank, ledger}
 use Rattle.model.proofs.After.{Fine}
 use Rattle.model.proofs.Calls.{octree-regular}
-use Rattle.words.specs.Words.{words}
 use Rattle.trees.specs.Pieces.{pieces}
 use Rattle.record.specs.Commands.{word-oct}
 use Rattle.record.specs.Input.{records}
@@ -22,8 +21,7 @@ use Rattle.commands.specs.Commands.{says}
 
 -- the arrays of `main`
 pub starts : Keeps octree false (pieces (replicate 56 0) (replicate 5248 0) (replicate 2052 0) (replicate 16416 0)) broken
-unfolding words
-starts = none-yet octree (pieces (replicate 56 0) (replicate 5248 0) (replicate 2052 0) (replicate 16416 0)) (record { head = refl; nodes = refl; links = refl; points = refl }) refl
+starts = none-yet octree (pieces (replicate 56 0) (replicate 5248 0) (replicate 2052 0) (replicate 16416 0)) (record { head = refl; nodes = refl; links = refl; points = refl })
 
 pub prints : {chunks : List (List ℕ)} {out : List ℕ} → Run octree (says true) broken true [] chunks out → out ≡ lines octree broken (records (says true) true (flatten chunks))
 prints r = any-cutting octree (says true) r

@@ -8,7 +8,6 @@ use Rattle.model.specs.Calls.{broken, quadtree}
 use Rattle.model.specs.History.{blank, ledger}
 use Rattle.model.proofs.After.{Fine}
 use Rattle.model.proofs.Calls.{quadtree-regular}
-use Rattle.words.specs.Words.{words}
 use Rattle.trees.specs.Pieces.{pieces}
 use Rattle.record.specs.Commands.{word-quad}
 use Rattle.record.specs.Input.{records}
@@ -22,8 +21,7 @@ use Rattle.commands.specs.Commands.{says}
 
 -- the arrays of `main`
 pub starts : Keeps quadtree false (pieces (replicate 40 0) (replicate 5504 0) (replicate 2052 0) (replicate 12312 0)) broken
-unfolding words
-starts = none-yet quadtree (pieces (replicate 40 0) (replicate 5504 0) (replicate 2052 0) (replicate 12312 0)) (record { head = refl; nodes = refl; links = refl; points = refl }) refl
+starts = none-yet quadtree (pieces (replicate 40 0) (replicate 5504 0) (replicate 2052 0) (replicate 12312 0)) (record { head = refl; nodes = refl; links = refl; points = refl })
 
 pub prints : {chunks : List (List ℕ)} {out : List ℕ} → Run quadtree (says false) broken true [] chunks out → out ≡ lines quadtree broken (records (says false) true (flatten chunks))
 prints r = any-cutting quadtree (says false) r

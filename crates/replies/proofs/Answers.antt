@@ -19,7 +19,7 @@ use Rattle.model.specs.Calls.{Ask, Box, Call, Clear, Contains, Create, Delete, 
 use Rattle.model.proofs.After.{ask-same}
 use Rattle.model.proofs.Calls.{delete-ends, insert-ends}
 use Rattle.model.proofs.Counts.{cond-same}
-use Rattle.trees.specs.Pieces.{AsksHeld, Does, DoesHeld, Pieces, Says, SearchesHeld, roomFor}
+use Rattle.trees.specs.Pieces.{AsksHeld, Creates, DoesHeld, Pieces, Says, SearchesHeld, TakenFor, roomFor}
 use Rattle.record.specs.Numbers.{decimal}
 use Rattle.replies.specs.Lines.{after, answer, changes, crlf, field, heard, held?, line, makes, points, told}
 use Rattle.replies.specs.Printed.{PutsTold, ShapedPoint}
@@ -137,6 +137,12 @@ step-held k misfit b cap = refl
 step-held k broken b cap = create-held broken b cap
 step-held k (tree p) b cap = create-held (tree p) b cap
 
+-- pieces that are in a state are taken for it
+taken : (k : Kind) (s : Pieces) (a : State) → Says k s a → TakenFor k s a
+taken k s misfit y = y
+taken k s broken y = y .0
+taken k s (tree a) y = y
+
 -- ---- a record is answered
 module _ (k : Kind) (held : Bool) (s : Pieces) (out : List ℕ) (at : ℕ) (out' : List ℕ) (r : ℕ) where
   -- what a record says, by a command
@@ -170,7 +176,7 @@ module _ (k : Kind) (held : Bool) (s : Pieces) (out : List ℕ) (at : ℕ) (out'
   only-tree c held' s' e go (tree a) y = subst (Ends c held' s') (sym (heard-tree k a c)) (go a (y .1))
 
   still : (q : Query) (a : Plan) → held ≡ true → Says k s (tree a) → Keeps k held s (step k (tree a) (Ask q) .state)
-  still q a e y = subst (λ (b : State). (held ≡ held? b) × Says k s b) (sym (ask-state k a q)) (e ∙ sym (tree-held a), y)
+  still q a e y = subst (Keeps k held s) (sym (ask-state k a q)) (e ∙ sym (tree-held a), y)
 
   -- a change: its reply alone
   pub answers-change : (c : Call) (s' : Pieces) (q : ℕ) → Bare c → Stays k c → held ≡ true → DoesHeld k c s s' q 0 → Wrote out at (decimal q ++ crlf) out' r
@@ -179,7 +185,7 @@ module _ (k : Kind) (held : Bool) (s : Pieces) (out : List ℕ) (at : ℕ) (out'
   answers-change c s' q f st e d w = only-tree c held s' e (λ a y.
       let g = d a y in
       let l : decimal q ++ crlf ≡ line c (step k (tree a) c) = ap (λ (j : ℕ). decimal j ++ crlf) (g .reply) ∙ sym (line-reply c (step k (tree a) c) (f (step k (tree a) c) .0)) in
-      (subst (λ (t : List ℕ). Wrote out at t out' r) l w, (e ∙ sym (st a), g .after), λ n. g .refused (not-done c f (step k (tree a) c) n) (sym (g .figure))))
+      (subst (λ (t : List ℕ). Wrote out at t out' r) l w, (e ∙ sym (st a), taken k s' (step k (tree a) c .state) (g .after)), λ n. g .refused (not-done c f (step k (tree a) c) n) (sym (g .figure))))
 
   -- a yes or no, or a count
   pub answers-figure : (q : Query) (n : ℕ) → Figured q → held ≡ true → AsksHeld k q s 0 n
@@ -205,12 +211,12 @@ module _ (k : Kind) (held : Bool) (s : Pieces) (out : List ℕ) (at : ℕ) (out'
       (subst (λ (t : List ℕ). Wrote out at t out' r) (sym (line-told q o (f o))) (told-is (k .axes) reply n coords marks out out' at r w o cs ms (d a y) (h .0) (le-trans (h .1) room) x), still q a e y, λ n. refl))
 
   -- a creation: its reply alone
-  pub answers-create : (b : List Side) (cap : ℕ) (s' : Pieces) (q : ℕ) (held' : Bool) → Does k (Create b cap) s s' q 0 → held' ≡ held || eqb q 0 → Wrote out at (decimal q ++ crlf) out' r
+  pub answers-create : (b : List Side) (cap : ℕ) (s' : Pieces) (q : ℕ) (held' : Bool) → Creates k b cap s s' q → held' ≡ held || eqb q 0 → Wrote out at (decimal q ++ crlf) out' r
       → Answers k (some (Create b cap)) held s held' s' out at out' r
-  unfolding Answers answer Does
+  unfolding Answers answer Creates
   answers-create b cap s' q held' d eh w a y =
       let g = d a (y .1) in
       let o = step k a (Create b cap) in
       let l : decimal q ++ crlf ≡ line (Create b cap) o = ap (λ (j : ℕ). decimal j ++ crlf) (g .reply) ∙ sym (line-reply (Create b cap) o (create-bare b cap o .0)) in
       let h : held' ≡ held? (o .state) = eh ∙ ap (λ (t : Bool). t || eqb q 0) (y .0) ∙ ap (λ (j : ℕ). held? a || eqb j 0) (g .reply) ∙ step-held k a b cap in
-      subst (Ends (Create b cap) held' s') (sym (heard-create k a b cap)) (subst (λ (t : List ℕ). Wrote out at t out' r) l w, (h, g .after), λ n. g .refused (not-done (Create b cap) (create-bare b cap) o n) (sym (g .figure)))
+      subst (Ends (Create b cap) held' s') (sym (heard-create k a b cap)) (subst (λ (t : List ℕ). Wrote out at t out' r) l w, (h, g .after), λ n. g .refused (not-done (Create b cap) (create-bare b cap) o n))

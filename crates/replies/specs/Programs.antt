@@ -7,7 +7,7 @@ use Prim.Native.Nat.{ℕ, _+_, _*_, _≤_, _<_}
 use lib.ListN.{length}
 use lib.Seq.{sets}
 use Rattle.model.specs.Calls.{Kind, State, Call}
-use Rattle.trees.specs.Pieces.{Pieces, Says}
+use Rattle.trees.specs.Pieces.{Pieces, TakenFor}
 use Rattle.record.specs.Input.{records}
 use Rattle.replies.specs.Lines.{answer, held?, lines, state}
 
@@ -20,9 +20,9 @@ pub record Puts (room : ℕ) (before : List ℕ) (at : ℕ) (bytes after : List 
   pub wrote : at + room ≤ length before → Wrote before at bytes after r
   pub none : length before < at + room → Wrote before at [] after r
 
--- the pieces are in this state, and the program knows whether they hold a tree
+-- the program's own flag says whether a tree is held; where none is, it is of no matter what lies in the pieces, as long as they have their lengths
 abbrev pub Keeps : Kind → (held : Bool) → Pieces → State → Type 0
-Keeps k held s a = (held ≡ held? a) × Says k s a
+Keeps k held s a = (held ≡ held? a) × TakenFor k s a
 
 -- no line is longer: a reply, a count and the line end have at most 14 bytes, a float 17 with its comma, a payload 11; and there are at most 512 points
 abbrev pub longest : (axes : ℕ) → ℕ
