@@ -10,14 +10,14 @@ use lib.Ieee.{Float}
 use lib.ListN.{length}
 use borrow.Author.Tests.{eq-eqb, ne-eqb, eqb-true, eqb-false}
 use Rattle.model.specs.Boxes.{Side, acceptable}
-use Rattle.model.specs.Calls.{Create, Kind, ways}
+use Rattle.model.specs.Calls.{Kind, ways}
 use Rattle.model.specs.Soundness.{All}
 use Rattle.model.proofs.Calls.{Regular}
 use Rattle.model.proofs.Inside.{F64}
 use Rattle.words.specs.Words.{words}
 use Rattle.pool.specs.Meanings.{Empties}
 use Rattle.pool.specs.Writes.{pool}
-use Rattle.trees.specs.Pieces.{Decides, Does, Fits, Pieces, pieces}
+use Rattle.trees.specs.Pieces.{Creates, Decides, Fits, Pieces, pieces}
 use Rattle.trees.proofs.Creates.{Named, creates-bad, creates-done, creates-none}
 use Rattle.trees.proofs.Puts.{putHead}
 use Rattle.pieces.specs.Creations.{creationOf, replyOf}
@@ -65,24 +65,24 @@ making u cap most a e g = go u (eqb cap 0) refl refl
 
 -- a creation that is refused leaves the pieces as they were
 pub creates-refused : (k : Kind) (s : Pieces) (b : List Side) (cap : ℕ) (v : Bool) → Decides v (Fits k s) → v ≡ true → (u : Bool) → u ≡ acceptable b
-    → (a : Creation) (p r : ℕ) → a ≡ creationOf u cap → a ≡ Refused p → r ≡ replyOf a → Does k (Create b cap) s s r 0
+    → (a : Creation) (p r : ℕ) → a ≡ creationOf u cap → a ≡ Refused p → r ≡ replyOf a → Creates k b cap s s r
 creates-refused k s b cap v fits ev u eu a p r e g er = go u (eqb cap 0) refl refl
   where
-    go : (w z : Bool) → u ≡ w → eqb cap 0 ≡ z → Does k (Create b cap) s s r 0
+    go : (w z : Bool) → u ≡ w → eqb cap 0 ≡ z → Creates k b cap s s r
     go w true f h =
         let n = eqb-true cap 0 h in
-        subst (λ (j : ℕ). Does k (Create b cap) s s j 0) (reply-refused a 3 (e ∙ sym (decides-none u cap n)) ∙ sym er) (creates-none k s b cap v fits ev n)
+        subst (λ (j : ℕ). Creates k b cap s s j) (reply-refused a 3 (e ∙ sym (decides-none u cap n)) ∙ sym er) (creates-none k s b cap v fits ev n)
     go true false f h = absurd (different cap p (decides-made u cap (eqb-false cap 0 h) f ∙ sym e ∙ g))
     go false false f h =
         let n = eqb-false cap 0 h in
-        subst (λ (j : ℕ). Does k (Create b cap) s s j 0) (reply-refused a 4 (e ∙ sym (decides-bad u cap n f)) ∙ sym er) (creates-bad k s b cap v fits ev n u eu f)
+        subst (λ (j : ℕ). Creates k b cap s s j) (reply-refused a 4 (e ∙ sym (decides-bad u cap n f)) ∙ sym er) (creates-bad k s b cap v fits ev n u eu f)
 
 -- a creation that is done leaves the empty tree
 pub creates-made : (k : Kind) (s : Pieces) (b : List Side) (cap : ℕ) (v : Bool) → Decides v (Fits k s) → v ≡ true → (u : Bool) → u ≡ acceptable b
     → (a : Creation) (most : ℕ) → a ≡ creationOf u cap → a ≡ Made most
     → (m : ℕ) → Named k m → Regular k → (cs es : List Float) → zipWith (λ c e. record { corner = c; extent = e }) cs es ≡ b → length cs ≡ k .axes → length es ≡ k .axes → All F64 cs → All F64 es
     → (h n' x' : List ℕ) → length h ≡ length (s .head) → length n' ≡ length (s .nodes) → length x' ≡ length (s .links) → words h ≡ putHead (k .axes) (words (s .head)) cs es most
-    → Empties (ways k) (pool (s .nodes) (s .links)) (pool n' x') 1 → Does k (Create b cap) s (pieces h n' x' (s .points)) 0 0
+    → Empties (ways k) (pool (s .nodes) (s .links)) (pool n' x') 1 → Creates k b cap s (pieces h n' x' (s .points)) 0
 creates-made k s b cap v fits ev u eu a most e g m nm rg cs es eb ec ee fc fe h n' x' lh ln lx eh ep =
     let mk = making u cap most a e g in
     creates-done k s b cap v fits ev (mk .some) u eu m nm rg cs es eb ec ee fc fe h n' x' lh ln lx (eh ∙ ap (putHead (k .axes) (words (s .head)) cs es) (mk .capacity)) ep (mk .accepted)

@@ -8,7 +8,6 @@ use Rattle.model.specs.Calls.{State, broken, octree, quadtree}
 use Rattle.model.specs.History.{blank, ledger}
 use Rattle.model.proofs.After.{Fine}
 use Rattle.model.proofs.Calls.{Regular, octree-regular, quadtree-regular}
-use Rattle.words.specs.Words.{words}
 use Rattle.trees.specs.Pieces.{Pieces, pieces}
 use Rattle.tree.specs.Depths.{kind}
 use Rattle.record.specs.Input.{records}
@@ -22,12 +21,10 @@ use Rattle.turns.proofs.Turns.{any-cutting, turns-keep}
 
 -- ---- the arrays of `run`
 pub starts-quad : Keeps quadtree false (pieces (replicate 40 0) (replicate 5504 0) (replicate 2052 0) (replicate 12312 0)) broken
-unfolding words
-starts-quad = none-yet quadtree (pieces (replicate 40 0) (replicate 5504 0) (replicate 2052 0) (replicate 12312 0)) (record { head = refl; nodes = refl; links = refl; points = refl }) refl
+starts-quad = none-yet quadtree (pieces (replicate 40 0) (replicate 5504 0) (replicate 2052 0) (replicate 12312 0)) (record { head = refl; nodes = refl; links = refl; points = refl })
 
 pub starts-oct : Keeps octree false (pieces (replicate 56 0) (replicate 5248 0) (replicate 2052 0) (replicate 16416 0)) broken
-unfolding words
-starts-oct = none-yet octree (pieces (replicate 56 0) (replicate 5248 0) (replicate 2052 0) (replicate 16416 0)) (record { head = refl; nodes = refl; links = refl; points = refl }) refl
+starts-oct = none-yet octree (pieces (replicate 56 0) (replicate 5248 0) (replicate 2052 0) (replicate 16416 0)) (record { head = refl; nodes = refl; links = refl; points = refl })
 
 -- ---- after the input
 regular : (deep : Bool) → Regular (kind deep)

@@ -1,6 +1,7 @@
 -- What a program does for a record, from what the calls of a tree promise. Over any kind of tree.
 use Prim.Native.Nat.{ℕ, _+_, _*_, _≤_, _<_}
 use mathlib.Core.Path.{_≡_, refl, sym, ap, _∙_, subst}
+use mathlib.Core.Logic.{_≢_}
 use mathlib.Core.Bool.{Bool, true, false, _||_, or-false, or-true}
 use mathlib.Core.List.{List, [], _++_}
 use mathlib.Core.Option.{Option, none, some}
@@ -9,6 +10,7 @@ use native.Mathlib.Omega.{arith}
 use lib.Dec.{T, eqb}
 use lib.ListN.{length, getD}
 use lib.Ieee.{Float}
+use borrow.Author.Tests.{eqb-false}
 use Rattle.model.specs.Boxes.{Side, acceptable}
 use Rattle.model.specs.Soundness.{All}
 use Rattle.model.specs.Trees.{Point}
@@ -17,9 +19,9 @@ use Rattle.model.specs.Calls.{Ask, Box, Call, Clear, Contains, Create, Delete, 
 use Rattle.model.proofs.After.{ask-same}
 use Rattle.model.proofs.Calls.{delete-ends, insert-ends}
 use Rattle.model.proofs.Counts.{cond-same}
-use Rattle.trees.specs.Pieces.{AsksHeld, Does, DoesHeld, Pieces, Says, SearchesHeld, roomFor}
+use Rattle.trees.specs.Pieces.{AsksHeld, Creates, DoesHeld, Pieces, Says, SearchesHeld, TakenFor, roomFor}
 use Rattle.record.specs.Numbers.{decimal}
-use Rattle.replies.specs.Lines.{after, answer, crlf, field, heard, held?, line, makes, points, told}
+use Rattle.replies.specs.Lines.{after, answer, changes, crlf, field, heard, held?, line, makes, points, told}
 use Rattle.replies.specs.Printed.{PutsTold}
 use Rattle.replies.specs.Programs.{Answers, Keeps, Wrote, longest}
 use Rattle.replies.proofs.Lines.{line-figure, line-reply, line-told}
@@ -60,24 +62,28 @@ unfolding heard makes
 heard-create k a b cap = ap (λ (t : Bool). elim t as (λ u. Outcome) [ true ↦ step k a (Create b cap) | false ↦ refuse noTree a ]) (or-true (held? a))
 
 -- ---- what stands after the reply number
+-- nothing, and a reply other than 0 says that nothing changed
 abbrev Bare : Call → Type 0
-Bare c = (o : Outcome) → after c o ≡ []
+Bare c = (o : Outcome) → (after c o ≡ []) × (changes c o ≡ eqb (number (o .reply)) 0)
 
 pub insert-bare : (p : Point) → Bare (Insert p)
-unfolding after
-insert-bare p o = refl
+unfolding after changes
+insert-bare p o = (refl, refl)
 
 pub delete-bare : (p : Point) → Bare (Delete p)
-unfolding after
-delete-bare p o = refl
+unfolding after changes
+delete-bare p o = (refl, refl)
 
 pub clear-bare : Bare Clear
-unfolding after
-clear-bare o = refl
+unfolding after changes
+clear-bare o = (refl, refl)
 
 create-bare : (b : List Side) (cap : ℕ) → Bare (Create b cap)
-unfolding after
-create-bare b cap o = refl
+unfolding after changes
+create-bare b cap o = (refl, refl)
+
+not-done : (c : Call) → Bare c → (o : Outcome) → changes c o ≡ false → number (o .reply) ≢ 0
+not-done c f o e = eqb-false (number (o .reply)) 0 (sym (f o .1) ∙ e)
 
 line-none : (c : Call) (a : State) → line c (refuse noTree a) ≡ decimal 10 ++ crlf
 unfolding line number
@@ -131,6 +137,12 @@ step-held k misfit b cap = refl
 step-held k broken b cap = create-held broken b cap
 step-held k (tree p) b cap = create-held (tree p) b cap
 
+-- pieces that are in a state are taken for it
+taken : (k : Kind) (s : Pieces) (a : State) → Says k s a → TakenFor k s a
+taken k s misfit y = y
+taken k s broken y = y .0
+taken k s (tree a) y = y
+
 -- ---- a record is answered
 module _ (k : Kind) (held : Bool) (s : Pieces) (out : List ℕ) (at : ℕ) (out' : List ℕ) (r : ℕ) where
   -- what a record says, by a command
@@ -140,7 +152,7 @@ module _ (k : Kind) (held : Bool) (s : Pieces) (out : List ℕ) (at : ℕ) (out'
   -- 9
   pub answers-bad : Wrote out at (decimal 9 ++ crlf) out' r → Answers k none held s held s out at out' r
   unfolding Answers answer number
-  answers-bad w a y = (w, y)
+  answers-bad w a y = (w, y, λ e. refl)
 
   -- 10
   pub answers-none : (c : Call) → makes c ≡ false → held ≡ false → Wrote out at (decimal 10 ++ crlf) out' r → Answers k (some c) held s held s out at out' r
@@ -148,28 +160,32 @@ module _ (k : Kind) (held : Bool) (s : Pieces) (out : List ℕ) (at : ℕ) (out'
   answers-none c f e w a y =
       let h : heard k a c ≡ refuse noTree a = heard-none k a c (sym (y .0) ∙ e) f in
       let l : line c (heard k a c) ≡ decimal 10 ++ crlf = ap (line c) h ∙ line-none c a in
-      (subst (λ (t : List ℕ). Wrote out at t out' r) (sym l) w, subst (λ (o : Outcome). Keeps k held s (o .state)) (sym h) y)
+      (subst (λ (t : List ℕ). Wrote out at t out' r) (sym l) w, subst (λ (o : Outcome). Keeps k held s (o .state)) (sym h) y, λ n. refl)
+
+  -- what is shown of a call, by its outcome
+  abbrev Ends : Call → (held' : Bool) → Pieces → Outcome → Type 0
+  Ends c held' s' o = Wrote out at (line c o) out' r × Keeps k held' s' (o .state) × (changes c o ≡ false → s' ≡ s)
 
   -- a tree that is held, and what follows from it
   only-tree : (c : Call) (held' : Bool) (s' : Pieces) → held ≡ true
-      → ((a : Plan) → Says k s (tree a) → Wrote out at (line c (step k (tree a) c)) out' r × Keeps k held' s' (step k (tree a) c .state))
+      → ((a : Plan) → Says k s (tree a) → Ends c held' s' (step k (tree a) c))
       → Answers k (some c) held s held' s' out at out' r
   unfolding Answers answer held?
   only-tree c held' s' e go misfit y = absurd (subst T (sym e ∙ y .0) tt)
   only-tree c held' s' e go broken y = absurd (subst T (sym e ∙ y .0) tt)
-  only-tree c held' s' e go (tree a) y = subst (λ (o : Outcome). Wrote out at (line c o) out' r × Keeps k held' s' (o .state)) (sym (heard-tree k a c)) (go a (y .1))
+  only-tree c held' s' e go (tree a) y = subst (Ends c held' s') (sym (heard-tree k a c)) (go a (y .1))
 
   still : (q : Query) (a : Plan) → held ≡ true → Says k s (tree a) → Keeps k held s (step k (tree a) (Ask q) .state)
-  still q a e y = subst (λ (b : State). (held ≡ held? b) × Says k s b) (sym (ask-state k a q)) (e ∙ sym (tree-held a), y)
+  still q a e y = subst (Keeps k held s) (sym (ask-state k a q)) (e ∙ sym (tree-held a), y)
 
   -- a change: its reply alone
-  pub answers-change : (c : Call) (s' : Pieces) (q n : ℕ) → Bare c → Stays k c → held ≡ true → DoesHeld k c s s' q n → Wrote out at (decimal q ++ crlf) out' r
+  pub answers-change : (c : Call) (s' : Pieces) (q : ℕ) → Bare c → Stays k c → held ≡ true → DoesHeld k c s s' q 0 → Wrote out at (decimal q ++ crlf) out' r
       → Answers k (some c) held s held s' out at out' r
   unfolding DoesHeld
-  answers-change c s' q n f st e d w = only-tree c held s' e (λ a y.
+  answers-change c s' q f st e d w = only-tree c held s' e (λ a y.
       let g = d a y in
-      let l : decimal q ++ crlf ≡ line c (step k (tree a) c) = ap (λ (j : ℕ). decimal j ++ crlf) (g .reply) ∙ sym (line-reply c (step k (tree a) c) (f (step k (tree a) c))) in
-      (subst (λ (t : List ℕ). Wrote out at t out' r) l w, (e ∙ sym (st a), g .after)))
+      let l : decimal q ++ crlf ≡ line c (step k (tree a) c) = ap (λ (j : ℕ). decimal j ++ crlf) (g .reply) ∙ sym (line-reply c (step k (tree a) c) (f (step k (tree a) c) .0)) in
+      (subst (λ (t : List ℕ). Wrote out at t out' r) l w, (e ∙ sym (st a), taken k s' (step k (tree a) c .state) (g .after)), λ n. g .refused (not-done c f (step k (tree a) c) n) (sym (g .figure))))
 
   -- a yes or no, or a count
   pub answers-figure : (q : Query) (n : ℕ) → Figured q → held ≡ true → AsksHeld k q s 0 n
@@ -180,7 +196,7 @@ module _ (k : Kind) (held : Bool) (s : Pieces) (out : List ℕ) (at : ℕ) (out'
       let st = ask-state k a q in
       let o = step k (tree a) (Ask q) in
       let l : decimal 0 ++ field (decimal n) ++ crlf ≡ line (Ask q) o = ap (λ (j : ℕ). decimal 0 ++ field (decimal j) ++ crlf) (g .figure) ∙ sym (line-figure q o (f o) (sym (g .reply))) in
-      (subst (λ (t : List ℕ). Wrote out at t out' r) l w, still q a e y))
+      (subst (λ (t : List ℕ). Wrote out at t out' r) l w, still q a e y, λ n. refl))
 
   -- a search: the points that it handed over
   pub answers-told : (q : Query) (cs ms coords marks : List ℕ) (reply n : ℕ) → Pointed q → ((a : Plan) → All (ShapedPoint (k .axes)) (trees.held 32 (a .root)) → Asked (k .axes) 512 (step k (tree a) (Ask q)))
@@ -192,15 +208,15 @@ module _ (k : Kind) (held : Bool) (s : Pieces) (out : List ℕ) (at : ℕ) (out'
       let h = asked a (held-shaped k s a y low) in
       let m : (17 * k .axes + 11) * o .figure ≤ (17 * k .axes + 11) * 512 = mul-le-mul-left (17 * k .axes + 11) (h .1) in
       let x : at + (14 + (17 * k .axes + 11) * o .figure) ≤ length out = omega (arith, m, fit) in
-      (subst (λ (t : List ℕ). Wrote out at t out' r) (sym (line-told q o (f o))) (told-is (k .axes) reply n coords marks out out' at r w o cs ms (d a y) (h .0) (le-trans (h .1) room) x), still q a e y))
+      (subst (λ (t : List ℕ). Wrote out at t out' r) (sym (line-told q o (f o))) (told-is (k .axes) reply n coords marks out out' at r w o cs ms (d a y) (h .0) (le-trans (h .1) room) x), still q a e y, λ n. refl))
 
   -- a creation: its reply alone
-  pub answers-create : (b : List Side) (cap : ℕ) (s' : Pieces) (q : ℕ) (held' : Bool) → Does k (Create b cap) s s' q 0 → held' ≡ held || eqb q 0 → Wrote out at (decimal q ++ crlf) out' r
+  pub answers-create : (b : List Side) (cap : ℕ) (s' : Pieces) (q : ℕ) (held' : Bool) → Creates k b cap s s' q → held' ≡ held || eqb q 0 → Wrote out at (decimal q ++ crlf) out' r
       → Answers k (some (Create b cap)) held s held' s' out at out' r
-  unfolding Answers answer Does
+  unfolding Answers answer Creates
   answers-create b cap s' q held' d eh w a y =
       let g = d a (y .1) in
       let o = step k a (Create b cap) in
-      let l : decimal q ++ crlf ≡ line (Create b cap) o = ap (λ (j : ℕ). decimal j ++ crlf) (g .reply) ∙ sym (line-reply (Create b cap) o (create-bare b cap o)) in
+      let l : decimal q ++ crlf ≡ line (Create b cap) o = ap (λ (j : ℕ). decimal j ++ crlf) (g .reply) ∙ sym (line-reply (Create b cap) o (create-bare b cap o .0)) in
       let h : held' ≡ held? (o .state) = eh ∙ ap (λ (t : Bool). t || eqb q 0) (y .0) ∙ ap (λ (j : ℕ). held? a || eqb j 0) (g .reply) ∙ step-held k a b cap in
-      subst (λ (o : Outcome). Wrote out at (line (Create b cap) o) out' r × Keeps k held' s' (o .state)) (sym (heard-create k a b cap)) (subst (λ (t : List ℕ). Wrote out at t out' r) l w, (h, g .after))
+      subst (Ends (Create b cap) held' s') (sym (heard-create k a b cap)) (subst (λ (t : List ℕ). Wrote out at t out' r) l w, (h, g .after), λ n. g .refused (not-done (Create b cap) (create-bare b cap) o n))

@@ -51,6 +51,16 @@ unfoldable pub line : Call → Outcome → List ℕ
 unfolding decimal after number
 line c o = decimal (number (o .reply)) ++ cond (eqb (number (o .reply)) 0) (after c o) [] ++ crlf
 
+-- whether a call that was heard changes the pieces: "Refused calls change nothing", and a query changes nothing. Bulk keeps what it stored; no record is one
+unfoldable pub changes : Call → Outcome → Bool
+unfolding number
+changes (Create b cap) o = eqb (number (o .reply)) 0
+changes (Insert p) o = eqb (number (o .reply)) 0
+changes (Bulk ps) o = true
+changes (Delete p) o = eqb (number (o .reply)) 0
+changes Clear o = eqb (number (o .reply)) 0
+changes (Ask q) o = false
+
 -- ---- a program
 -- the tree that is held; before the first creation that is done there is none, which is `broken`
 unfoldable pub held? : State → Bool
@@ -75,11 +85,12 @@ heard k s c = elim (held? s || makes c) [ true ↦ step k s c | false ↦ refuse
 pub record Answer : Type 0 where
   pub line : List ℕ
   pub state : State
+  pub changes : Bool
 
 unfoldable pub answer : Kind → State → Option Call → Answer
-unfolding heard line decimal number
-answer k s none = record { line = decimal (number notUnderstood) ++ crlf; state = s }
-answer k s (some c) = let o = heard k s c in record { line = line c o; state = o .state }
+unfolding heard line changes decimal number
+answer k s none = record { line = decimal (number notUnderstood) ++ crlf; state = s; changes = false }
+answer k s (some c) = let o = heard k s c in record { line = line c o; state = o .state; changes = changes c o }
 
 -- the lines of many records, and the tree after them
 unfoldable pub lines : Kind → State → List (Option Call) → List ℕ

@@ -1,11 +1,11 @@
 // Creation, and clear of the Rust.
 ghost use mathlib.Core.List.{List};
 ghost use Prim.Native.Nat.{ℕ};
-ghost use Rattle.model.specs.Calls.{Clear, Create, ways};
+ghost use Rattle.model.specs.Calls.{Clear, ways};
 ghost use Rattle.tree.specs.Depths.{kind, region};
 ghost use Rattle.pool.specs.Meanings.{Empties};
 ghost use Rattle.pool.specs.Writes.{pool};
-ghost use Rattle.trees.specs.Pieces.{pieces, Does, DoesHeld};
+ghost use Rattle.trees.specs.Pieces.{pieces, Creates, DoesHeld};
 use crate::put::put_head;
 use geometry::space::Cube;
 use pieces::Creation;
@@ -37,7 +37,7 @@ pub fn create(
     depth: f64,
     capacity: u32,
 ) -> u32
-    ensures { λ r. ⌜ Does (kind deep) (Create (region deep x y z width height depth) capacity) (pieces (now (head .entry)) (now (nodes .entry)) (now (links .entry)) (now (points .entry))) (pieces (now (head .exit)) (now (nodes .exit)) (now (links .exit)) (now (points .entry))) r 0 ⌝ }
+    ensures { λ r. ⌜ Creates (kind deep) (region deep x y z width height depth) capacity (pieces (now (head .entry)) (now (nodes .entry)) (now (links .entry)) (now (points .entry))) (pieces (now (head .exit)) (now (nodes .exit)) (now (links .exit)) (now (points .entry))) r ⌝ }
 {
     if !fits(deep, head, nodes, links, points) {
         return 8;

@@ -11,10 +11,11 @@ use lib.Ieee.{Float}
 use lib.ListN.{length}
 use borrow.Author.Tests.{eq-eqb, ne-eqb}
 use Rattle.model.specs.Boxes.{Side, acceptable}
-use Rattle.model.specs.Calls.{Clear, Create, Kind, Outcome, Plan, Reply, State, badBoundary, broken, call, create, empty, give, misfit, noCapacity, number, onBroken, refuse, step, tree, ways}
+use Rattle.model.specs.Calls.{Clear, Create, Kind, Outcome, Plan, Reply, State, badBoundary, broken, call, create, empty, give, misfit, noCapacity, number, onBroken, refuse, step, tree, unsound, ways}
 use Rattle.model.specs.Soundness.{All, Sound}
 use Rattle.model.specs.Trees.{Tree}
 use Rattle.model.proofs.Calls.{Regular, kept-empty}
+use Rattle.model.proofs.Counts.{cond-same}
 use Rattle.model.proofs.Inside.{F64, F64Side}
 use Rattle.words.specs.Words.{words}
 use Rattle.words.proofs.Words.{length-words}
@@ -27,7 +28,7 @@ use Rattle.pool.proofs.Erase.{erase-flat}
 use Rattle.pool.proofs.Lists.{by-eq, is-eq, pos}
 use Rattle.pool.proofs.Theorems.{group-low}
 use Rattle.pool.proofs.Trees.{groups-flat, places-flat}
-use Rattle.trees.specs.Pieces.{Decides, Does, DoesHeld, Fits, Gives, Pieces, Says, boundaryOf, capacityOf, pieces, planOf}
+use Rattle.trees.specs.Pieces.{Creates, Decides, Does, DoesHeld, Fits, Gives, Makes, Pieces, Says, TakenFor, boundaryOf, capacityOf, pieces, planOf}
 use Rattle.trees.specs.Points.{pointAt}
 use Rattle.trees.proofs.Held.{Held, Roomy, does-held, links-long, nodes-long, plan-numbers, says-held, sides-f64, sides-length}
 use Rattle.trees.proofs.Puts.{head-boundary, head-capacity, putHead}
@@ -104,15 +105,34 @@ module _ (k : Kind) (m : ℕ) (nm : Named k m) (rg : Regular k) (s : Pieces) (n'
 
 -- ---- a creation
 module _ (k : Kind) (s : Pieces) (b : List Side) (cap : ℕ) where
-  -- pieces of the right length are in one of two states, and a creation does not ask which
-  creates-by : (s' : Pieces) (r : ℕ) → Fits k s → ((a : State) → Says k s a → Gives k (create a b cap) s s' r 0) → Does k (Create b cap) s s' r 0
-  unfolding Does step call onBroken
+  -- pieces of the right length are taken for one of two states, and a creation does not ask which
+  creates-by : (s' : Pieces) (r : ℕ) → Fits k s → ((a : State) → TakenFor k s a → Makes k (create a b cap) s s' r) → Creates k b cap s s' r
+  unfolding Creates step call onBroken
   creates-by s' r f go misfit y = absurd (y f)
   creates-by s' r f go broken y = go broken y
   creates-by s' r f go (tree a) y = go (tree a) y
 
-  refuses : (a : State) (rp : Reply) (r : ℕ) → Says k s a → create a b cap ≡ refuse rp a → r ≡ number rp → Gives k (create a b cap) s s r 0
-  refuses a rp r y e er = subst (λ (o : Outcome). Gives k o s s r 0) (sym e) (record { reply = er; figure = refl; after = y; refused = λ ne z. refl })
+  refuses : (a : State) (rp : Reply) (r : ℕ) → TakenFor k s a → create a b cap ≡ refuse rp a → r ≡ number rp → Makes k (create a b cap) s s r
+  refuses a rp r y e er = subst (λ (o : Outcome). Makes k o s s r) (sym e) (record { reply = er; after = y; refused = λ ne. refl })
+
+  -- on pieces whose state is known it is a call like the others
+  module _ (s' : Pieces) (r : ℕ) where
+    left-as : (a : State) (rp : Reply) → number rp ≢ 0 → Says k s a → Makes k (refuse rp a) s s' r → Gives k (refuse rp a) s s' r 0
+    left-as a rp n y g = record { reply = g .reply; figure = refl; after = subst (λ (t : Pieces). Says k t a) (sym (g .refused n)) y; refused = λ ne z. g .refused ne }
+
+    create-gives : (a : State) → Says k s a → Makes k (create a b cap) s s' r → Gives k (create a b cap) s s' r 0
+    unfolding create number
+    create-gives a y =
+        cond-same (λ (o : Outcome). Makes k o s s' r → Gives k o s s' r 0) (eqb cap 0) (refuse noCapacity a) _ (λ h. left-as a noCapacity (λ e. absurd (omega (arith, e))) y)
+        (λ h. cond-same (λ (o : Outcome). Makes k o s s' r → Gives k o s s' r 0) (acceptable b) (give (tree (empty b cap)) 0) (refuse badBoundary a)
+        (λ i g. record { reply = g .reply; figure = refl; after = g .after; refused = λ ne z. g .refused ne })
+        (λ i. left-as a badBoundary (λ e. absurd (omega (arith, e))) y))
+
+    pub creates-does : Creates k b cap s s' r → Does k (Create b cap) s s' r 0
+    unfolding Creates Does step call onBroken number
+    creates-does d misfit y = left-as misfit unsound (λ e. absurd (omega (arith, e))) y (d misfit y)
+    creates-does d broken y = create-gives broken y (d broken (y .0))
+    creates-does d (tree a) y = create-gives (tree a) y (d (tree a) y)
 
   create-none : (a : State) → cap ≡ 0 → create a b cap ≡ refuse noCapacity a
   unfolding create
@@ -127,19 +147,19 @@ module _ (k : Kind) (s : Pieces) (b : List Side) (cap : ℕ) where
   create-done a e u = let t : eqb cap 0 ≡ false = ne-eqb cap 0 e in rw (t, u, create)
 
   module _ (v : Bool) (fits : Decides v (Fits k s)) where
-    pub creates-misfit : v ≡ false → Does k (Create b cap) s s 8 0
-    unfolding Does step number
-    creates-misfit e misfit y = record { reply = refl; figure = refl; after = y; refused = λ ne z. refl }
-    creates-misfit e broken y = absurd (subst T (sym (fits .only (y .0)) ∙ e) tt)
+    pub creates-misfit : v ≡ false → Creates k b cap s s 8
+    unfolding Creates step number
+    creates-misfit e misfit y = record { reply = refl; after = y; refused = λ ne. refl }
+    creates-misfit e broken y = absurd (subst T (sym (fits .only y) ∙ e) tt)
     creates-misfit e (tree a) y = absurd (subst T (sym (fits .only (y .0)) ∙ e) tt)
 
     module _ (yes : v ≡ true) where
-      pub creates-none : cap ≡ 0 → Does k (Create b cap) s s 3 0
+      pub creates-none : cap ≡ 0 → Creates k b cap s s 3
       unfolding number
       creates-none e = creates-by s 3 (fits .sure yes) (λ a y. refuses a noCapacity 3 y (create-none a e) refl)
 
       module _ (some : cap ≢ 0) (u : Bool) (eu : u ≡ acceptable b) where
-        pub creates-bad : u ≡ false → Does k (Create b cap) s s 4 0
+        pub creates-bad : u ≡ false → Creates k b cap s s 4
         unfolding number
         creates-bad e = creates-by s 4 (fits .sure yes) (λ a y. refuses a badBoundary 4 y (create-bad a some (sym eu ∙ e)) refl)
 
@@ -157,9 +177,9 @@ module _ (k : Kind) (s : Pieces) (b : List Side) (cap : ℕ) where
               ap₂ (λ (u : List Side) (j : ℕ). plan-as u j (planOf k made (none 32) .root)) (ap (boundaryOf (k .axes)) eh ∙ head-boundary (k .axes) (words (s .head)) cs es cap ec ee (room f) fc fe ∙ eb) (ap (capacityOf (k .axes)) eh ∙ head-capacity (k .axes) (words (s .head)) cs es cap ec ee (room f))
               ∙ ap (plan-as b cap) (erase-flat (pointAt (k .axes) (words (s .points))) 32 [])
 
-          pub creates-done : u ≡ true → Does k (Create b cap) s made 0 0
+          pub creates-done : u ≡ true → Creates k b cap s made 0
           unfolding number
-          creates-done e = creates-by made 0 (fits .sure yes) (λ a y. subst (λ (o : Outcome). Gives k o s made 0 0) (sym (create-done a some (sym eu ∙ e))) (record { reply = refl; figure = refl; after = says (fits .sure yes); refused = λ ne z. absurd (ne refl) }))
+          creates-done e = creates-by made 0 (fits .sure yes) (λ a y. subst (λ (o : Outcome). Makes k o s made 0) (sym (create-done a some (sym eu ∙ e))) (record { reply = refl; after = says (fits .sure yes); refused = λ ne. absurd (ne refl) }))
             where
               says : Fits k s → Says k made (tree (empty b cap))
               says f =

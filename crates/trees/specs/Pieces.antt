@@ -9,7 +9,7 @@ use lib.Seq.{sets}
 use lib.Ieee.{binary64, toBits}
 use Rattle.model.specs.Boxes.{Side}
 use Rattle.model.specs.Trees.{Point}
-use Rattle.model.specs.Calls.{Kind, ways, Plan, State, misfit, broken, tree, number, Call, Query, Ask, Outcome, step}
+use Rattle.model.specs.Calls.{Kind, ways, Plan, State, misfit, broken, tree, number, Call, Create, Query, Ask, Outcome, step}
 use Rattle.model.specs.Soundness.{Sound}
 use Rattle.words.specs.Words.{words, pairs}
 use Rattle.pool.specs.Lists.{occ}
@@ -68,6 +68,12 @@ Says k s misfit = Fits k s → ⊥
 Says k s broken = Fits k s × ((a : Plan) → Holds k s a → ⊥)
 Says k s (tree a) = Fits k s × Holds k s a
 
+-- what the pieces are taken for by one who has not looked for a tree: where none is known, all pieces of the right length are alike
+abbrev pub TakenFor : Kind → Pieces → State → Type 0
+TakenFor k s misfit = Fits k s → ⊥
+TakenFor k s broken = Fits k s
+TakenFor k s (tree a) = Fits k s × Holds k s a
+
 -- the pieces hold some sound tree
 pub record Sane (k : Kind) (s : Pieces) : Type 0 where
   pub fits : Fits k s
@@ -94,6 +100,16 @@ Does k c s s' r n = (a : State) → Says k s a → Gives k (step k a c) s s' r n
 
 unfoldable pub DoesHeld : Kind → Call → Pieces → Pieces → (r n : ℕ) → Type 0
 DoesHeld k c s s' r n = (a : Plan) → Says k s (tree a) → Gives k (step k (tree a) c) s s' r n
+
+-- what a creation gives, by its outcome
+pub record Makes (k : Kind) (o : Outcome) (s s' : Pieces) (r : ℕ) : Type 0 where
+  pub reply : r ≡ number (o .reply)
+  pub after : TakenFor k s' (o .state)
+  pub refused : number (o .reply) ≢ 0 → s' ≡ s
+
+-- a creation, "8 (only for pieces of wrong length)": it does not ask what lies in the others
+unfoldable pub Creates : Kind → List Side → (capacity : ℕ) → Pieces → Pieces → (r : ℕ) → Type 0
+Creates k b cap s s' r = (a : State) → TakenFor k s a → Makes k (step k a (Create b cap)) s s' r
 
 -- ---- points in lent bytes: coordinates of 8 bytes each, x first, and payloads of 4, low byte first
 unfoldable pub bytes : ℕ → ℕ → List ℕ

@@ -36,7 +36,7 @@ same-length-4 c = search needs
 
 returns-2 : tie.Need-returns-2
 unfolding callIn
-returns-2 c = (λ e. answers-as (kind (c .before .before .before .before .before .before .before .before .before .before .before .before .before .before .before .before .before .args .deep)) _ _ _ _ _ _ _ _ _ _ (ap (callIn (c .before .before .before .before .before .before .before .before .before .before .before .before .before .before .before .before .before .args .deep)) e) (answers-change (kind (c .before .before .before .before .before .before .before .before .before .before .before .before .before .before .before .before .before .args .deep)) _ _ _ _ _ _ _ _ _ _ clear-bare (clear-stays (kind (c .before .before .before .before .before .before .before .before .before .before .before .before .before .before .before .before .before .args .deep))) (not-false _ (c .before .before .before .before .before .before .before .before .before .before .before .if1 .left)) ((c .before .before .before .before .before .before .before .before .clear .ensures) _ _) ((c .before .before .put-reply2 .ensures .0 .wrote) (omega (arith, (c .before .before .before .before .before .before .before .before .before .before .before .before .before .before .before .before .before .pre))))), (c .before .before .put-reply2 .ensures .1) (omega (arith, (c .before .before .before .before .before .before .before .before .before .before .before .before .before .before .before .before .before .pre))))
+returns-2 c = (λ e. answers-as (kind (c .before .before .before .before .before .before .before .before .before .before .before .before .before .before .before .before .before .args .deep)) _ _ _ _ _ _ _ _ _ _ (ap (callIn (c .before .before .before .before .before .before .before .before .before .before .before .before .before .before .before .before .before .args .deep)) e) (answers-change (kind (c .before .before .before .before .before .before .before .before .before .before .before .before .before .before .before .before .before .args .deep)) _ _ _ _ _ _ _ _ _ clear-bare (clear-stays (kind (c .before .before .before .before .before .before .before .before .before .before .before .before .before .before .before .before .before .args .deep))) (not-false _ (c .before .before .before .before .before .before .before .before .before .before .before .if1 .left)) ((c .before .before .before .before .before .before .before .before .clear .ensures) _ _) ((c .before .before .put-reply2 .ensures .0 .wrote) (omega (arith, (c .before .before .before .before .before .before .before .before .before .before .before .before .before .before .before .before .before .pre))))), (c .before .before .put-reply2 .ensures .1) (omega (arith, (c .before .before .before .before .before .before .before .before .before .before .before .before .before .before .before .before .before .pre))))
 
 pub clear-spec : {M : Type 1} → statement M
 clear-spec =
