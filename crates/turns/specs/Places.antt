@@ -1,4 +1,4 @@
--- Where a program is in its input, and what a turn does. Definitions only, for either program: `of` says what one record says.
+-- Where a program is in its input, what a turn does, and turns one after the other. Definitions only, for either program: `of` says what one record says.
 use mathlib.Core.Path.{_≡_}
 use mathlib.Core.Bool.{Bool, true, false}
 use mathlib.Core.List.{List, [], _++_}
@@ -23,6 +23,7 @@ bytesOf from end text = take (end - from) (drop from text)
 abbrev pub carried : Place → List ℕ → List ℕ
 carried p text = bytesOf (p .from) (p .end) text
 
+-- whether anything comes next
 unfoldable pub goesOn : Next → Bool
 goesOn next.Read = true
 goesOn next.Work = true
@@ -81,11 +82,11 @@ pub record Works (k : Kind) (of : List ℕ → Option Call) (a : State) (p : Pla
 -- something comes next, and a read before it leaves what is carried.
 pub data Turns (k : Kind) (of : List ℕ → Option Call) : (input printed : List ℕ) → State → Place → Pieces → (text : List ℕ) → Type 0 where
   begin : {s : Pieces} {text : List ℕ} → Keeps k false s broken → Turns k of [] [] broken first s text
-  turn : {input printed : List ℕ} {a : State} {p : Place} {s : Pieces} {text : List ℕ} {text₁ : List ℕ} {got : ℕ} {p' : Place} {s' : Pieces} {text' out out' : List ℕ}
+  turn : {input printed : List ℕ} {a : State} {p : Place} {s : Pieces} {text text₁ : List ℕ} {got : ℕ} {p' : Place} {s' : Pieces} {text' out out' : List ℕ}
       → Turns k of input printed a p s text → goesOn (p .next) ≡ true → carried p text₁ ≡ carried p text → (w : Works k of a p got text₁ p' s' text' out out')
       → Turns k of (input ++ came (p .next) got (p .end) text₁) (printed ++ take (p' .ready) out') (w .state) p' s' text'
 
--- the pieces are those of a program after some such turns
+-- some such turns lead here; which bytes they read and printed no contract can name
 pub record Turned (k : Kind) (of : List ℕ → Option Call) (p : Place) (s : Pieces) (text : List ℕ) : Type 0 where
   pub input : List ℕ
   pub printed : List ℕ
