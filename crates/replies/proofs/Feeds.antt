@@ -15,9 +15,9 @@ use Rattle.record.specs.Input.{begun, ended, records, unended}
 use Rattle.record.specs.Numbers.{decimal}
 use Rattle.record.proofs.Parts.{rest-is}
 use Rattle.record.proofs.Streams.{records-line, unended-some}
-use Rattle.replies.specs.Lines.{answer, crlf, lines}
+use Rattle.replies.specs.Lines.{answer, changed, crlf, lines}
 use Rattle.replies.specs.Programs.{Answers, Feeds, Keeps, Puts}
-use Rattle.replies.proofs.Fed.{fed-none, fed-one, fed-then}
+use Rattle.replies.proofs.Fed.{changed-append, fed-none, fed-one, fed-then, neither}
 use Rattle.replies.proofs.Written.{then, unwritten}
 
 -- ---- room for a line
@@ -33,30 +33,40 @@ room-left at line size h = go (leb line (size - at)) refl
 
 module _ (k : Kind) (of : List ℕ → Option Call) where
   -- nothing was read
-  pub feeds-none : (a : State) (start held : Bool) (text : List ℕ) (s : Pieces) (out : List ℕ) (at : ℕ) → Keeps k held s a → Feeds k of a start text held s start (drop 0 text) out at out at
-  feeds-none a start held text s out at y = record { state = a; printed = []; fed = fed-none k of a start text; wrote = (sym (add-zero at), refl); keeps = y }
+  pub feeds-none : (a : State) (start held : Bool) (text : List ℕ) (s : Pieces) (out : List ℕ) (at : ℕ) → Keeps k held s a → Feeds k of a start text s held s start (drop 0 text) out at out at
+  feeds-none a start held text s out at y = record { said = []; state = a; printed = []; fed = fed-none k of a start text; unchanged = λ e. refl; wrote = (sym (add-zero at), refl); keeps = y }
 
   -- the line before a line feed was answered
   pub feeds-line : (a : State) (start held held' : Bool) (text : List ℕ) (e : ℕ) (s s' : Pieces) (c : Option Call) (out : List ℕ) (at : ℕ) (out' : List ℕ) (r : ℕ)
       → e < length text → ((i : ℕ) → i < e → getD text i 0 ≡ 10 → ⊥) → (e < length text → getD text e 0 ≡ 10) → c ≡ ended of (begun start (take (e - 0) text))
-      → Answers k c held s held' s' out at out' r → Keeps k held s a → Feeds k of a start text held' s' false (drop (e + 1) text) out at out' r
-  unfolding Answers
+      → Answers k c held s held' s' out at out' r → Keeps k held s a → Feeds k of a start text s held' s' false (drop (e + 1) text) out at out' r
+  unfolding Answers changed
   feeds-line a start held held' text e s s' c out at out' r h f g ec w y =
       let d = w a y in
       record {
+        said = c ∷ [];
         state = answer k a c .state;
         printed = answer k a c .line;
         fed = fed-one k of a start false text (drop (e + 1) text) c (λ u. records-line of start text u e h f (g h) ∙ ap (λ (b : Option Call). b ∷ records of false (drop (e + 1) text ++ u)) (sym (ec ∙ ap (λ (j : ℕ). ended of (begun start (take j text))) (sub-zero e))));
+        unchanged = λ n. d .2 (neither (answer k a c .changes) false n .0);
         wrote = d .0;
         keeps = d .1;
       }
 
   -- one part after the other
-  pub feeds-then : (a : State) (start held₁ start₁ held₂ start₂ : Bool) (text rest₁ rest₂ : List ℕ) (s₁ s₂ : Pieces) (o o₁ o₂ : List ℕ) (at r₁ r₂ : ℕ)
-      → Feeds k of a start text held₁ s₁ start₁ rest₁ o at o₁ r₁ → ((b : State) → Keeps k held₁ s₁ b → Feeds k of b start₁ rest₁ held₂ s₂ start₂ rest₂ o₁ r₁ o₂ r₂) → Feeds k of a start text held₂ s₂ start₂ rest₂ o at o₂ r₂
-  feeds-then a start held₁ start₁ held₂ start₂ text rest₁ rest₂ s₁ s₂ o o₁ o₂ at r₁ r₂ f g =
+  pub feeds-then : (a : State) (start held₁ start₁ held₂ start₂ : Bool) (text rest₁ rest₂ : List ℕ) (s s₁ s₂ : Pieces) (o o₁ o₂ : List ℕ) (at r₁ r₂ : ℕ)
+      → Feeds k of a start text s held₁ s₁ start₁ rest₁ o at o₁ r₁ → ((b : State) → Keeps k held₁ s₁ b → Feeds k of b start₁ rest₁ s₁ held₂ s₂ start₂ rest₂ o₁ r₁ o₂ r₂) → Feeds k of a start text s held₂ s₂ start₂ rest₂ o at o₂ r₂
+  feeds-then a start held₁ start₁ held₂ start₂ text rest₁ rest₂ s s₁ s₂ o o₁ o₂ at r₁ r₂ f g =
       let h = g (f .state) (f .keeps) in
-      record { state = h .state; printed = f .printed ++ h .printed; fed = fed-then k of (f .fed) (h .fed); wrote = then o o₁ o₂ (f .printed) (h .printed) at r₁ r₂ (f .wrote) (h .wrote); keeps = h .keeps }
+      record {
+        said = f .said ++ h .said;
+        state = h .state;
+        printed = f .printed ++ h .printed;
+        fed = fed-then k of (f .fed) (h .fed);
+        unchanged = λ e. let n = changed-append k a (f .said) (h .said) e in h .unchanged (ap (λ (b : State). changed k b (h .said)) (f .fed .state-is) ∙ n .1) ∙ f .unchanged (n .0);
+        wrote = then o o₁ o₂ (f .printed) (h .printed) at r₁ r₂ (f .wrote) (h .wrote);
+        keeps = h .keeps;
+      }
 
 -- ---- the end
 nine : (k : Kind) (a : State) → lines k a (none ∷ []) ≡ decimal 9 ++ crlf

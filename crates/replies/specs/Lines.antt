@@ -102,3 +102,9 @@ unfoldable pub state : Kind → State → List (Option Call) → State
 unfolding answer
 state k s [] = s
 state k s (c ∷ cs) = state k (answer k s c .state) cs
+
+-- whether one of them changes the pieces
+unfoldable pub changed : Kind → State → List (Option Call) → Bool
+unfolding answer
+changed k s [] = false
+changed k s (c ∷ cs) = answer k s c .changes || changed k (answer k s c .state) cs

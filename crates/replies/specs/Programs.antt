@@ -9,7 +9,7 @@ use lib.Seq.{sets}
 use Rattle.model.specs.Calls.{Kind, State, Call}
 use Rattle.trees.specs.Pieces.{Pieces, TakenFor}
 use Rattle.record.specs.Input.{records}
-use Rattle.replies.specs.Lines.{answer, held?, lines, state}
+use Rattle.replies.specs.Lines.{answer, changed, held?, lines, state}
 
 -- from the index at on these bytes were written, and r is the index after them; the rest is as before
 abbrev pub Wrote : (before : List ℕ) (at : ℕ) (bytes after : List ℕ) (r : ℕ) → Type 0
@@ -33,17 +33,18 @@ unfoldable pub Answers : Kind → Option Call → (held : Bool) → Pieces → (
 unfolding answer
 Answers k c held s held' s' out at out' r = (a : State) → Keeps k held s a → Wrote out at (answer k a c .line) out' r × Keeps k held' s' (answer k a c .state) × (answer k a c .changes ≡ false → s' ≡ s)
 
--- The beginning of an input was answered, whatever comes after it: `rest` is left, and is the very start or not.
-pub record Fed (k : Kind) (of : List ℕ → Option Call) (a : State) (start : Bool) (text : List ℕ) (a' : State) (start' : Bool) (rest printed : List ℕ) : Type 0 where
-  pub said : List (Option Call)
+-- The beginning of an input was answered, the records `said` of it, whatever comes after it: `rest` is left, and is the very start or not.
+pub record Fed (k : Kind) (of : List ℕ → Option Call) (a : State) (start : Bool) (text : List ℕ) (said : List (Option Call)) (a' : State) (start' : Bool) (rest printed : List ℕ) : Type 0 where
   pub same : (more : List ℕ) → records of start (text ++ more) ≡ said ++ records of start' (rest ++ more)
   pub printed-is : printed ≡ lines k a said
   pub state-is : a' ≡ state k a said
 
--- Code was fed with a text: what is printed was written from the index at on, and the pieces hold the tree after it.
-pub record Feeds (k : Kind) (of : List ℕ → Option Call) (a : State) (start : Bool) (text : List ℕ) (held' : Bool) (s' : Pieces) (start' : Bool) (rest out : List ℕ) (at : ℕ) (out' : List ℕ) (r : ℕ) : Type 0 where
+-- Code was fed with a text: what is printed was written from the index at on, and the pieces hold the tree after it; where no record that was answered changes anything, they are as before.
+pub record Feeds (k : Kind) (of : List ℕ → Option Call) (a : State) (start : Bool) (text : List ℕ) (s : Pieces) (held' : Bool) (s' : Pieces) (start' : Bool) (rest out : List ℕ) (at : ℕ) (out' : List ℕ) (r : ℕ) : Type 0 where
+  pub said : List (Option Call)
   pub state : State
   pub printed : List ℕ
-  pub fed : Fed k of a start text state start' rest printed
+  pub fed : Fed k of a start text said state start' rest printed
+  pub unchanged : changed k a said ≡ false → s' ≡ s
   pub wrote : Wrote out at printed out' r
   pub keeps : Keeps k held' s' state

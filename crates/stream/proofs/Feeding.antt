@@ -42,12 +42,12 @@ pub record Feeding (k : Kind) (of : List ℕ → Option Call) (start held : Bool
   pub within : at ≤ length text
   pub room : to ≤ length out₀
   pub same : length out ≡ length out₀
-  pub feeds : (a : State) → Keeps k held s₀ a → Feeds k of a start text has s first (drop at text) out₀ 0 out to
+  pub feeds : (a : State) → Keeps k held s₀ a → Feeds k of a start text s₀ has s first (drop at text) out₀ 0 out to
 
 -- how far it came, and why it stopped
 abbrev Fed : (k : Kind) (of : List ℕ → Option Call) (start held : Bool) (text : List ℕ) (s₀ : Pieces) (out₀ : List ℕ) (first has : Bool) (s : Pieces) (out : List ℕ) (at to : ℕ) (full : Bool) → Type 0
 Fed k of start held text s₀ out₀ first has s out at to full =
-    ((a : State) → Keeps k held s₀ a → Feeds k of a start text has s first (drop at text) out₀ 0 out to)
+    ((a : State) → Keeps k held s₀ a → Feeds k of a start text s₀ has s first (drop at text) out₀ 0 out to)
     × (((at ≤ length text) × (to ≤ length out₀)) × ((full ≡ false → Unended (drop at text)) × (full ≡ true → length out₀ < to + longest (k .axes))))
 
 module _ (k : Kind) (of : List ℕ → Option Call) (start held : Bool) (text : List ℕ) (s₀ : Pieces) (out₀ : List ℕ) where
@@ -74,12 +74,12 @@ module _ (k : Kind) (of : List ℕ → Option Call) (start held : Bool) (text : 
         within = inside text at read (f .within) (went .1);
         room = omega (arith, f .same, went .2 (omega (arith, f .room, f .same)));
         same = same ∙ f .same;
-        feeds = λ a y. feeds-then k of a start has first has' false text (drop at text) (drop (at + read) text) s s' out₀ out out' 0 to to' (f .feeds a y) (λ b z. subst₂ (λ (u v : List ℕ). Feeds k of b first u has' s' false v out to out' to') (rest-is text at) (ap (drop read) (rest-is text at) ∙ drop-drop read at text) (went .3 b z));
+        feeds = λ a y. feeds-then k of a start has first has' false text (drop at text) (drop (at + read) text) s₀ s s' out₀ out out' 0 to to' (f .feeds a y) (λ b z. subst₂ (λ (u v : List ℕ). Feeds k of b first u s has' s' false v out to out' to') (rest-is text at) (ap (drop read) (rest-is text at) ∙ drop-drop read at text) (went .3 b z));
       }
 
     -- nothing more was done
-    still : (s' : Pieces) (out' : List ℕ) → s' ≡ s → out' ≡ out → (a : State) → Keeps k held s₀ a → Feeds k of a start text has s' first (drop at text) out₀ 0 out' to
-    still s' out' es eo a y = subst₂ (λ (q : Pieces) (o : List ℕ). Feeds k of a start text has q first (drop at text) out₀ 0 o to) (sym es) (sym eo) (f .feeds a y)
+    still : (s' : Pieces) (out' : List ℕ) → s' ≡ s → out' ≡ out → (a : State) → Keeps k held s₀ a → Feeds k of a start text s₀ has s' first (drop at text) out₀ 0 out' to
+    still s' out' es eo a y = subst₂ (λ (q : Pieces) (o : List ℕ). Feeds k of a start text s₀ has q first (drop at text) out₀ 0 o to) (sym es) (sym eo) (f .feeds a y)
 
     pub fed-unended : (s' : Pieces) (out' : List ℕ) → Steps k of first has rest s s' out to out' step.Unended → Fed k of start held text s₀ out₀ first has s' out' at to false
     unfolding Steps

@@ -88,7 +88,7 @@ pub fn feed(
     points: &mut [u8],
     out: &mut [u8],
 ) -> Progress
-    ensures { λ r. ⌜ ((a : State) → Keeps (kind deep) held (pieces (now (head .entry)) (now (nodes .entry)) (now (links .entry)) (now (points .entry))) a → Feeds (kind deep) (says deep) a start (now (text .entry)) (r .held) (pieces (now (head .exit)) (now (nodes .exit)) (now (links .exit)) (now (points .exit))) (r .start) (drop (r .read) (now (text .entry))) (now (out .entry)) 0 (now (out .exit)) (r .to)) ⌝ }
+    ensures { λ r. ⌜ ((a : State) → Keeps (kind deep) held (pieces (now (head .entry)) (now (nodes .entry)) (now (links .entry)) (now (points .entry))) a → Feeds (kind deep) (says deep) a start (now (text .entry)) (pieces (now (head .entry)) (now (nodes .entry)) (now (links .entry)) (now (points .entry))) (r .held) (pieces (now (head .exit)) (now (nodes .exit)) (now (links .exit)) (now (points .exit))) (r .start) (drop (r .read) (now (text .entry))) (now (out .entry)) 0 (now (out .exit)) (r .to)) ⌝ }
     ensures bounds { λ r. ⌜ (r .read ≤ length (now (text .entry))) × (r .to ≤ length (now (out .entry))) ⌝ }
     ensures stopped { λ r. ⌜ (r .full ≡ false → Unended (drop (r .read) (now (text .entry)))) × (r .full ≡ true → length (now (out .entry)) < r .to + longest (kind deep .axes)) ⌝ }
 {

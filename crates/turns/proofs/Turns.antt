@@ -23,27 +23,31 @@ unfolding unended state answer
 unended-state k a [] = refl
 unended-state k a (b ∷ s) = refl
 
+-- the beginning of an input was answered: some records of it
+record Answered (k : Kind) (of : List ℕ → Option Call) (text : List ℕ) (a : State) (start : Bool) (rest printed : List ℕ) : Type 0 where
+  said : List (Option Call)
+  fed : Fed k of broken true text said a start rest printed
+
 module _ (k : Kind) (of : List ℕ → Option Call) where
   -- of a line that has not ended 133 bytes are enough
-  pub fed-kept : {a b : State} {start next : Bool} {s rest printed : List ℕ} → Unended rest → Fed k of a start s b next rest printed → Fed k of a start s b next (take 133 rest) printed
-  fed-kept {next = next} {rest = rest} u f =
-      record { said = f .said; same = λ v. f .same v ∙ ap (λ (l : List (Option Call)). f .said ++ l) (records-clipped of next rest v u); printed-is = f .printed-is; state-is = f .state-is }
+  pub fed-kept : {a b : State} {start next : Bool} {s rest printed : List ℕ} {x : List (Option Call)} → Unended rest → Fed k of a start s x b next rest printed → Fed k of a start s x b next (take 133 rest) printed
+  fed-kept {next = next} {rest = rest} {x = x} u f =
+      record { same = λ v. f .same v ∙ ap (λ (l : List (Option Call)). x ++ l) (records-clipped of next rest v u); printed-is = f .printed-is; state-is = f .state-is }
 
   -- bytes that come behind the rest come behind the whole
-  fed-more : {a b : State} {start next : Bool} {s rest printed : List ℕ} (u : List ℕ) → Fed k of a start s b next rest printed → Fed k of a start (s ++ u) b next (rest ++ u) printed
-  fed-more {start = start} {next = next} {s = s} {rest = rest} u f = record {
-    said = f .said;
-    same = λ v. ap (records of start) (append-assoc s u v) ∙ f .same (u ++ v) ∙ ap (λ (l : List ℕ). f .said ++ records of next l) (sym (append-assoc rest u v));
+  fed-more : {a b : State} {start next : Bool} {s rest printed : List ℕ} {x : List (Option Call)} (u : List ℕ) → Fed k of a start s x b next rest printed → Fed k of a start (s ++ u) x b next (rest ++ u) printed
+  fed-more {start = start} {next = next} {s = s} {rest = rest} {x = x} u f = record {
+    same = λ v. ap (records of start) (append-assoc s u v) ∙ f .same (u ++ v) ∙ ap (λ (l : List ℕ). x ++ records of next l) (sym (append-assoc rest u v));
     printed-is = f .printed-is;
     state-is = f .state-is;
   }
 
   -- the beginning of an input was answered, and then its end
-  fed-end : {a b d : State} {start next : Bool} {s rest p q : List ℕ} → Fed k of a start s b next rest p → Finished k of b next rest d q → Finished k of a start s d (p ++ q)
-  fed-end {a} {b} {d} {start} {next} {s} {rest} {p} {q} f g =
-      let all : f .said ++ records of next rest ≡ records of start s = ap (λ (l : List ℕ). f .said ++ records of next l) (sym (append-nil rest)) ∙ sym (f .same []) ∙ ap (records of start) (append-nil s) in (
-        ap₂ (λ (x y : List ℕ). x ++ y) (f .printed-is) (g .0 ∙ ap (λ (x : State). lines k x (records of next rest)) (f .state-is)) ∙ sym (lines-append k a (f .said) (records of next rest)) ∙ ap (lines k a) all,
-        g .1 ∙ ap (λ (x : State). state k x (records of next rest)) (f .state-is) ∙ sym (state-append k a (f .said) (records of next rest)) ∙ ap (state k a) all,
+  fed-end : {a b d : State} {start next : Bool} {s rest p q : List ℕ} {x : List (Option Call)} → Fed k of a start s x b next rest p → Finished k of b next rest d q → Finished k of a start s d (p ++ q)
+  fed-end {a} {b} {d} {start} {next} {s} {rest} {p} {q} {x} f g =
+      let all : x ++ records of next rest ≡ records of start s = ap (λ (l : List ℕ). x ++ records of next l) (sym (append-nil rest)) ∙ sym (f .same []) ∙ ap (records of start) (append-nil s) in (
+        ap₂ (λ (l m : List ℕ). l ++ m) (f .printed-is) (g .0 ∙ ap (λ (z : State). lines k z (records of next rest)) (f .state-is)) ∙ sym (lines-append k a x (records of next rest)) ∙ ap (lines k a) all,
+        g .1 ∙ ap (λ (z : State). state k z (records of next rest)) (f .state-is) ∙ sym (state-append k a x (records of next rest)) ∙ ap (state k a) all,
       )
 
   -- ---- turns one after the other
@@ -52,22 +56,24 @@ module _ (k : Kind) (of : List ℕ → Option Call) where
   turns-keep (turn t on e w) = w .keeps
 
   -- a chunk comes behind what is carried, where the read leaves that
-  then-came : {input printed : List ℕ} {a : State} (p : Place) (text text₁ : List ℕ) (got : ℕ) → Fed k of broken true input a (p .start) (carried p text) printed → carried p text₁ ≡ carried p text
-      → Fed k of broken true (input ++ came (p .next) got (p .end) text₁) a (p .start) (given p got text₁) printed
-  then-came {input} {printed} {a} p text text₁ got f e =
+  then-came : {input printed : List ℕ} {x : List (Option Call)} {a : State} (p : Place) (text text₁ : List ℕ) (got : ℕ) → Fed k of broken true input x a (p .start) (carried p text) printed → carried p text₁ ≡ carried p text
+      → Fed k of broken true (input ++ came (p .next) got (p .end) text₁) x a (p .start) (given p got text₁) printed
+  then-came {input} {printed} {x} {a} p text text₁ got f e =
       let c = came (p .next) got (p .end) text₁ in
-      subst (λ (b : List ℕ). Fed k of broken true (input ++ c) a (p .start) (b ++ c) printed) (sym e) (fed-more c f)
+      subst (λ (b : List ℕ). Fed k of broken true (input ++ c) x a (p .start) (b ++ c) printed) (sym e) (fed-more c f)
 
   -- while something comes next, the beginning of what came is answered, and the rest is carried
-  turns-fed : {input printed : List ℕ} {a : State} {p : Place} {s : Pieces} {text : List ℕ} → Turns k of input printed a p s text → goesOn (p .next) ≡ true → Fed k of broken true input a (p .start) (carried p text) printed
-  turns-fed (begin h) on = fed-none k of broken true []
-  turns-fed (turn {p = p} {text = text} {text₁ = text₁} {got = got} t on e w) more = fed-then k of (then-came p text text₁ got (turns-fed t on) e) (w .goes-on more)
+  turns-fed : {input printed : List ℕ} {a : State} {p : Place} {s : Pieces} {text : List ℕ} → Turns k of input printed a p s text → goesOn (p .next) ≡ true → Answered k of input a (p .start) (carried p text) printed
+  turns-fed (begin h) on = record { said = []; fed = fed-none k of broken true [] }
+  turns-fed (turn {p = p} {text = text} {text₁ = text₁} {got = got} t on e w) more =
+      let f = turns-fed t on in
+      record { said = f .said ++ w .said; fed = fed-then k of (then-came p text text₁ got (f .fed) e) (w .goes-on more) }
 
   -- at the end the whole input is answered, however it was cut
   pub any-cutting : {input printed : List ℕ} {a : State} {p : Place} {s : Pieces} {text : List ℕ} → Turns k of input printed a p s text → goesOn (p .next) ≡ false → Finished k of broken true input a printed
   unfolding goesOn
   any-cutting (begin h) over = no (sym over)
-  any-cutting (turn {p = p} {text = text} {text₁ = text₁} {got = got} t on e w) over = fed-end (then-came p text text₁ got (turns-fed t on) e) (w .ends on over)
+  any-cutting (turn {p = p} {text = text} {text₁ = text₁} {got = got} t on e w) over = fed-end (then-came p text text₁ got (turns-fed t on .fed) e) (w .ends on over)
 
   -- two cuttings of one input
   pub cuttings-same : {input p₁ p₂ : List ℕ} {a₁ a₂ : State} {q₁ q₂ : Place} {s₁ s₂ : Pieces} {t₁ t₂ : List ℕ} → Turns k of input p₁ a₁ q₁ s₁ t₁ → goesOn (q₁ .next) ≡ false → Turns k of input p₂ a₂ q₂ s₂ t₂ → goesOn (q₂ .next) ≡ false → (p₁ ≡ p₂) × (a₁ ≡ a₂)

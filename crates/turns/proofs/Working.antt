@@ -56,19 +56,21 @@ bytes-few text from till = omega (arith, length-take (till - from) (drop from te
 
 -- ---- lines were answered
 module _ (k : Kind) (of : List ℕ → Option Call) (text : List ℕ) (from end' : ℕ) (start held : Bool) (s : Pieces) (out : List ℕ) (held' start' : Bool) (s' : Pieces) (out' : List ℕ) (read to : ℕ)
-    (f : (a : State) → Keeps k held s a → Feeds k of a start (bytesOf from end' text) held' s' start' (drop read (bytesOf from end' text)) out 0 out' to)
+    (f : (a : State) → Keeps k held s a → Feeds k of a start (bytesOf from end' text) s held' s' start' (drop read (bytesOf from end' text)) out 0 out' to)
     (bounds : (read ≤ length (bytesOf from end' text)) × (to ≤ length out)) (range : (from ≤ end') × (end' ≤ length text) × (longest (k .axes) ≤ length out)) (same : length out' ≡ length out) where
   -- no room is left
   abbrev full : Place
   full = record { from = from + read; end = end'; start = start'; held = held'; ready = to; next = next.Work }
 
-  pub digests-full : (a : State) → Keeps k held s a → Digests k of a start (bytesOf from end' text) full s' text out out'
+  pub digests-full : (a : State) → Keeps k held s a → Digests k of a start (bytesOf from end' text) full s s' text out out'
   digests-full a y =
       let g = f a y in
       record {
+        said = g .said;
         state = g .state;
         keeps = g .keeps;
-        fed = subst₂ (λ (b o : List ℕ). Fed k of a start (bytesOf from end' text) (g .state) start' b o) (further text from end' read) (sym (front out (g .printed) out' to (g .wrote) (bounds .1))) (g .fed);
+        unchanged = g .unchanged;
+        fed = subst₂ (λ (b o : List ℕ). Fed k of a start (bytesOf from end' text) (g .said) (g .state) start' b o) (further text from end' read) (sym (front out (g .printed) out' to (g .wrote) (bounds .1))) (g .fed);
         rest = behind out (g .printed) out' to (g .wrote) (bounds .1);
       }
 
@@ -96,13 +98,15 @@ module _ (k : Kind) (of : List ℕ → Option Call) (text : List ℕ) (from end'
     kept-is =
         ap₂ (λ (j : ℕ) (l : List ℕ). take j l) (sub-zero m ∙ many) moved ∙ kept-front text (take 133 (bytesOf (from + read) end' text)) (omega (arith, many, kept-within)) ∙ ap (take 133) (sym (further text from end' read))
 
-    pub digests-ahead : (a : State) → Keeps k held s a → Digests k of a start (bytesOf from end' text) ahead s' text' out out'
+    pub digests-ahead : (a : State) → Keeps k held s a → Digests k of a start (bytesOf from end' text) ahead s s' text' out out'
     digests-ahead a y =
         let g = f a y in
         record {
+          said = g .said;
           state = g .state;
           keeps = g .keeps;
-          fed = subst₂ (λ (b o : List ℕ). Fed k of a start (bytesOf from end' text) (g .state) start' b o) (sym kept-is) (sym (front out (g .printed) out' to (g .wrote) (bounds .1))) (fed-kept k of ended (g .fed));
+          unchanged = g .unchanged;
+          fed = subst₂ (λ (b o : List ℕ). Fed k of a start (bytesOf from end' text) (g .said) (g .state) start' b o) (sym kept-is) (sym (front out (g .printed) out' to (g .wrote) (bounds .1))) (fed-kept k of ended (g .fed));
           rest = behind out (g .printed) out' to (g .wrote) (bounds .1);
         }
 
@@ -118,23 +122,26 @@ module _ (k : Kind) (of : List ℕ → Option Call) (text : List ℕ) (from end'
 -- ---- a turn, by what comes next
 module _ (k : Kind) (of : List ℕ → Option Call) (p : Place) (got : ℕ) (text : List ℕ) (s : Pieces) (out : List ℕ) where
   -- bytes were answered and something comes next: they are those that the turn had before it
-  works-fed : {b : List ℕ} → b ≡ given p got text → goesOn (p .next) ≡ true → (p' : Place) (s' : Pieces) (text' out' : List ℕ) → goesOn (p' .next) ≡ true → {a : State} → Digests k of a (p .start) b p' s' text' out out' → Works k of a p got text p' s' text' out out'
+  works-fed : {b : List ℕ} → b ≡ given p got text → goesOn (p .next) ≡ true → (p' : Place) (s' : Pieces) (text' out' : List ℕ) → goesOn (p' .next) ≡ true → {a : State} → Digests k of a (p .start) b p' s s' text' out out' → Works k of a p got text p' s s' text' out out'
   works-fed e on p' s' text' out' more {a} d = record {
+    said = d .said;
     state = d .state;
     keeps = d .keeps;
-    goes-on = λ l. subst (λ (b : List ℕ). Fed k of a (p .start) b (d .state) (p' .start) (carried p' text') (take (p' .ready) out')) e (d .fed);
+    unchanged = d .unchanged;
+    goes-on = λ l. subst (λ (b : List ℕ). Fed k of a (p .start) b (d .said) (d .state) (p' .start) (carried p' text') (take (p' .ready) out')) e (d .fed);
     ends = λ l n. no (sym n ∙ more);
     over = λ l. no (sym l ∙ on);
+    still = λ n. no (sym n ∙ more);
     rest = d .rest;
   }
 
-  pub works-on : p .next ≡ next.Work → (p' : Place) (s' : Pieces) (text' out' : List ℕ) → ((a : State) → Keeps k (p .held) s a → Digests k of a (p .start) (carried p text) p' s' text' out out') → goesOn (p' .next) ≡ true → (a : State) → Keeps k (p .held) s a → Works k of a p got text p' s' text' out out'
+  pub works-on : p .next ≡ next.Work → (p' : Place) (s' : Pieces) (text' out' : List ℕ) → ((a : State) → Keeps k (p .held) s a → Digests k of a (p .start) (carried p text) p' s s' text' out out') → goesOn (p' .next) ≡ true → (a : State) → Keeps k (p .held) s a → Works k of a p got text p' s s' text' out out'
   unfolding came goesOn
   works-on e p' s' text' out' f more a y =
       works-fed (sym (append-nil (carried p text)) ∙ ap (λ (n : Next). carried p text ++ came n got (p .end) text) (sym e)) (ap goesOn e) p' s' text' out' more (f a y)
 
-  pub works-chunk : p .next ≡ next.Read → p .from ≤ p .end → (p' : Place) (s' : Pieces) (text' out' : List ℕ) → ((a : State) → Keeps k (p .held) s a → Digests k of a (p .start) (bytesOf (p .from) (p .end + got) text) p' s' text' out out')
-      → goesOn (p' .next) ≡ true → (a : State) → Keeps k (p .held) s a → Works k of a p got text p' s' text' out out'
+  pub works-chunk : p .next ≡ next.Read → p .from ≤ p .end → (p' : Place) (s' : Pieces) (text' out' : List ℕ) → ((a : State) → Keeps k (p .held) s a → Digests k of a (p .start) (bytesOf (p .from) (p .end + got) text) p' s s' text' out out')
+      → goesOn (p' .next) ≡ true → (a : State) → Keeps k (p .held) s a → Works k of a p got text p' s s' text' out out'
   unfolding came goesOn
   works-chunk e h p' s' text' out' f more a y =
       works-fed (longer text (p .from) (p .end) got h ∙ ap (λ (n : Next). carried p text ++ came n got (p .end) text) (sym e)) (ap goesOn e) p' s' text' out' more (f a y)
@@ -151,17 +158,20 @@ module _ (k : Kind) (of : List ℕ → Option Call) (p : Place) (got : ℕ) (tex
         ap₂ (λ (n : Next) (g : ℕ). carried p text ++ came n g (p .end) text) e none ∙ append-nil (carried p text)
 
     pub works-end : p .next ≡ next.Read → got ≤ 0 → Unended (carried p text) → 12 ≤ length out → ready ≤ length out → ((k : Kind) (a : State) → Puts 12 out 0 (lines k a (unended (begun (p .start) (carried p text)))) out' ready)
-        → (a : State) → Keeps k (p .held) s a → Works k of a p got text last s text out out'
+        → (a : State) → Keeps k (p .held) s a → Works k of a p got text last s s text out out'
     unfolding goesOn
     works-end e z u room fits w a y =
         let q = w k a .wrote (omega (arith, room)) in
         let all : unended (begun (p .start) (carried p text)) ≡ records of (p .start) (given p got text) = sym (records-end of (p .start) (carried p text) u) ∙ ap (records of (p .start)) (sym (nothing-came e z)) in
         record {
+          said = [];
           state = a;
           keeps = y;
+          unchanged = λ n. refl;
           goes-on = λ l. no l;
           ends = λ l n. (front out (lines k a (unended (begun (p .start) (carried p text)))) out' ready q fits ∙ ap (lines k a) all, sym (unended-state k a (begun (p .start) (carried p text))) ∙ ap (state k a) all);
           over = λ l. no (sym l ∙ ap goesOn e);
+          still = λ n. refl;
           rest = behind out (lines k a (unended (begun (p .start) (carried p text)))) out' ready q fits;
         }
 
@@ -169,14 +179,17 @@ module _ (k : Kind) (of : List ℕ → Option Call) (p : Place) (got : ℕ) (tex
   abbrev over : Place
   over = record { from = p .from; end = p .end; start = p .start; held = p .held; ready = 0; next = next.Done }
 
-  pub works-over : p .next ≡ next.Done → (a : State) → Keeps k (p .held) s a → Works k of a p got text over s text out out
+  pub works-over : p .next ≡ next.Done → (a : State) → Keeps k (p .held) s a → Works k of a p got text over s s text out out
   unfolding goesOn
   works-over e a y = record {
+    said = [];
     state = a;
     keeps = y;
+    unchanged = λ n. refl;
     goes-on = λ l. no l;
     ends = λ l n. no (sym (ap goesOn e) ∙ l);
     over = λ l. (refl, refl);
+    still = λ n. refl;
     rest = refl;
   }
 
@@ -227,7 +240,7 @@ module _ (k : Kind) (of : List ℕ → Option Call) (p : Place) (text text₁ : 
     works = h .works;
   }
 
-  pub turned-on : (s : Pieces) (got : ℕ) (p' : Place) (s' : Pieces) (text' out out' : List ℕ) → Turned k of p s text → goesOn (p .next) ≡ true → ((a : State) → Keeps k (p .held) s a → Works k of a p got text₁ p' s' text' out out') → Turned k of p' s' text'
+  pub turned-on : (s : Pieces) (got : ℕ) (p' : Place) (s' : Pieces) (text' out out' : List ℕ) → Turned k of p s text → goesOn (p .next) ≡ true → ((a : State) → Keeps k (p .held) s a → Works k of a p got text₁ p' s s' text' out out') → Turned k of p' s' text'
   turned-on s got p' s' text' out out' t on f =
       let w = f (t .state) (turns-keep k of (t .turns)) in
       record { input = t .input ++ came (p .next) got (p .end) text₁; printed = t .printed ++ take (p' .ready) out'; state = w .state; turns = turn (t .turns) on (carried-same p text text₁ same) w }

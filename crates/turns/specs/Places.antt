@@ -9,7 +9,7 @@ use lib.ListN.{length, take, drop}
 use Rattle.model.specs.Calls.{Call, Kind, State, broken}
 use Rattle.trees.specs.Pieces.{Pieces}
 use Rattle.record.specs.Input.{Unended, records}
-use Rattle.replies.specs.Lines.{lines, state}
+use Rattle.replies.specs.Lines.{changed, lines, state}
 use Rattle.replies.specs.Programs.{Fed, Keeps, longest}
 use Rattle.turns.specs.declared.Next.{Next}
 use Rattle.turns.specs.declared.Next.the-variants as next
@@ -61,21 +61,27 @@ given p got text = carried p text ++ came (p .next) got (p .end) text
 abbrev pub Finished : (k : Kind) (of : List ℕ → Option Call) (a : State) (start : Bool) (text : List ℕ) (a' : State) (printed : List ℕ) → Type 0
 Finished k of a start text a' printed = (printed ≡ lines k a (records of start text)) × (a' ≡ state k a (records of start text))
 
--- The beginning of some bytes was answered, and a place was left: the rest of them is carried, as far as its records need it, and the bytes of `out` after the ready ones are as before.
-pub record Digests (k : Kind) (of : List ℕ → Option Call) (a : State) (start : Bool) (s : List ℕ) (p : Place) (s' : Pieces) (text' out out' : List ℕ) : Type 0 where
+-- The beginning of some bytes was answered, and a place was left: the rest of them is carried, as far as its records need it, and the bytes of `out` after the ready ones are as before. Where no
+-- record that was answered changes anything, the pieces are as they were.
+pub record Digests (k : Kind) (of : List ℕ → Option Call) (a : State) (start : Bool) (bytes : List ℕ) (p : Place) (s s' : Pieces) (text' out out' : List ℕ) : Type 0 where
+  pub said : List (Option Call)
   pub state : State
   pub keeps : Keeps k (p .held) s' state
-  pub fed : Fed k of a start s state (p .start) (carried p text') (take (p .ready) out')
+  pub unchanged : changed k a said ≡ false → s' ≡ s
+  pub fed : Fed k of a start bytes said state (p .start) (carried p text') (take (p .ready) out')
   pub rest : drop (p .ready) out' ≡ drop (p .ready) out
 
 -- A turn was made from one place to another. Where something comes next, the beginning of what it had before it was answered, and the rest is carried; where nothing does, all of it was, as the
--- end of the input. After the end nothing is done.
-pub record Works (k : Kind) (of : List ℕ → Option Call) (a : State) (p : Place) (got : ℕ) (text : List ℕ) (p' : Place) (s' : Pieces) (text' out out' : List ℕ) : Type 0 where
+-- end of the input. After the end nothing is done. The pieces are as they were at the end, and where no record that was answered changes anything.
+pub record Works (k : Kind) (of : List ℕ → Option Call) (a : State) (p : Place) (got : ℕ) (text : List ℕ) (p' : Place) (s s' : Pieces) (text' out out' : List ℕ) : Type 0 where
+  pub said : List (Option Call)
   pub state : State
   pub keeps : Keeps k (p' .held) s' state
-  pub goes-on : goesOn (p' .next) ≡ true → Fed k of a (p .start) (given p got text) state (p' .start) (carried p' text') (take (p' .ready) out')
+  pub unchanged : changed k a said ≡ false → s' ≡ s
+  pub goes-on : goesOn (p' .next) ≡ true → Fed k of a (p .start) (given p got text) said state (p' .start) (carried p' text') (take (p' .ready) out')
   pub ends : goesOn (p .next) ≡ true → goesOn (p' .next) ≡ false → Finished k of a (p .start) (given p got text) state (take (p' .ready) out')
   pub over : goesOn (p .next) ≡ false → (state ≡ a) × (take (p' .ready) out' ≡ [])
+  pub still : goesOn (p' .next) ≡ false → s' ≡ s
   pub rest : drop (p' .ready) out' ≡ drop (p' .ready) out
 
 -- Turns from the very start of an input, with no tree: the chunks that came and the ready bytes, each joined in order, and the state, place, pieces and text after them. A turn is made while
@@ -83,7 +89,7 @@ pub record Works (k : Kind) (of : List ℕ → Option Call) (a : State) (p : Pla
 pub data Turns (k : Kind) (of : List ℕ → Option Call) : (input printed : List ℕ) → State → Place → Pieces → (text : List ℕ) → Type 0 where
   begin : {s : Pieces} {text : List ℕ} → Keeps k false s broken → Turns k of [] [] broken first s text
   turn : {input printed : List ℕ} {a : State} {p : Place} {s : Pieces} {text text₁ : List ℕ} {got : ℕ} {p' : Place} {s' : Pieces} {text' out out' : List ℕ}
-      → Turns k of input printed a p s text → goesOn (p .next) ≡ true → carried p text₁ ≡ carried p text → (w : Works k of a p got text₁ p' s' text' out out')
+      → Turns k of input printed a p s text → goesOn (p .next) ≡ true → carried p text₁ ≡ carried p text → (w : Works k of a p got text₁ p' s s' text' out out')
       → Turns k of (input ++ came (p .next) got (p .end) text₁) (printed ++ take (p' .ready) out') (w .state) p' s' text'
 
 -- some such turns lead here; which bytes they read and printed no contract can name

@@ -44,7 +44,7 @@ fn digest(
     out: &mut [u8],
 ) -> Place
     requires { ⌜ (place .from ≤ end) × (end ≤ length (now text)) × (longest (kind deep .axes) ≤ length (now out)) ⌝ }
-    ensures { λ r. ⌜ ((a : State) → Keeps (kind deep) (place .held) (pieces (now (head .entry)) (now (nodes .entry)) (now (links .entry)) (now (points .entry))) a → Digests (kind deep) (says deep) a (place .start) (bytesOf (place .from) end (now (text .entry))) r (pieces (now (head .exit)) (now (nodes .exit)) (now (links .exit)) (now (points .exit))) (now (text .exit)) (now (out .entry)) (now (out .exit))) ⌝ }
+    ensures { λ r. ⌜ ((a : State) → Keeps (kind deep) (place .held) (pieces (now (head .entry)) (now (nodes .entry)) (now (links .entry)) (now (points .entry))) a → Digests (kind deep) (says deep) a (place .start) (bytesOf (place .from) end (now (text .entry))) r (pieces (now (head .entry)) (now (nodes .entry)) (now (links .entry)) (now (points .entry))) (pieces (now (head .exit)) (now (nodes .exit)) (now (links .exit)) (now (points .exit))) (now (text .exit)) (now (out .entry)) (now (out .exit))) ⌝ }
     ensures sits { λ r. ⌜ Sits (kind deep) r (now (text .exit)) (now (out .exit)) ⌝ }
     ensures more { λ r. ⌜ goesOn (r .next) ≡ true ⌝ }
 {
@@ -104,7 +104,7 @@ pub fn work(
     requires { ⌜ Sits (kind deep) place (now text) (now out) ⌝ }
     requires came { ⌜ place .end + got ≤ length (now text) ⌝ }
     requires room { ⌜ longest (kind deep .axes) ≤ length (now out) ⌝ }
-    ensures { λ r. ⌜ ((a : State) → Keeps (kind deep) (place .held) (pieces (now (head .entry)) (now (nodes .entry)) (now (links .entry)) (now (points .entry))) a → Works (kind deep) (says deep) a place got (now (text .entry)) r (pieces (now (head .exit)) (now (nodes .exit)) (now (links .exit)) (now (points .exit))) (now (text .exit)) (now (out .entry)) (now (out .exit))) ⌝ }
+    ensures { λ r. ⌜ ((a : State) → Keeps (kind deep) (place .held) (pieces (now (head .entry)) (now (nodes .entry)) (now (links .entry)) (now (points .entry))) a → Works (kind deep) (says deep) a place got (now (text .entry)) r (pieces (now (head .entry)) (now (nodes .entry)) (now (links .entry)) (now (points .entry))) (pieces (now (head .exit)) (now (nodes .exit)) (now (links .exit)) (now (points .exit))) (now (text .exit)) (now (out .entry)) (now (out .exit))) ⌝ }
     ensures sits { λ r. ⌜ Sits (kind deep) r (now (text .exit)) (now (out .exit)) ⌝ }
     ensures ends { λ r. ⌜ goesOn (r .next) ≡ not (atEnd (place .next) got) ⌝ }
 {
