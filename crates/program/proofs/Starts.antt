@@ -1,5 +1,5 @@
 -- Each program begins with no tree, and after any input the points held are the accepted inserts less the successful deletes.
-use mathlib.Core.Path.{_≡_, refl, sym, subst}
+use mathlib.Core.Path.{_≡_, refl, sym, subst, subst⁻¹}
 use mathlib.Core.Bool.{Bool, false, true}
 use mathlib.Core.List.{List}
 use Prim.Native.Nat.{ℕ}
@@ -15,7 +15,7 @@ use Rattle.replies.specs.Programs.{Keeps}
 use Rattle.replies.proofs.History.{held-after-records, understoodOnly}
 use Rattle.replies.proofs.Starts.{none-yet}
 use Rattle.commands.specs.Commands.{made, says}
-use Rattle.turns.specs.Places.{Turns, goesOn}
+use Rattle.turns.specs.Places.{Ran, Turned, Turns, goesOn}
 use Rattle.turns.specs.declared.Place.{Place}
 use Rattle.turns.proofs.Turns.{any-cutting, turns-keep}
 
@@ -25,6 +25,10 @@ starts-quad = none-yet quadtree (pieces (replicate 40 0) (replicate 5504 0) (rep
 
 pub starts-oct : Keeps octree false (pieces (replicate 56 0) (replicate 5248 0) (replicate 2052 0) (replicate 16416 0)) broken
 starts-oct = none-yet octree (pieces (replicate 56 0) (replicate 5248 0) (replicate 2052 0) (replicate 16416 0)) (record { head = refl; nodes = refl; links = refl; points = refl })
+
+-- the tree of the flag is the one whose arrays are lent
+pub ran : (deep d : Bool) (p : Place) (s : Pieces) (text : List ℕ) → deep ≡ d → Turned (kind d) (says d) p s text → Ran (kind deep) (says deep) p
+ran deep d p s text e t = subst⁻¹ (λ (b : Bool). Ran (kind b) (says b) p) e (record { pieces = s; text = text; turned = t })
 
 -- ---- after the input
 regular : (deep : Bool) → Regular (kind deep)

@@ -8,7 +8,7 @@ ghost use Rattle.trees.specs.Pieces.{pieces};
 ghost use Rattle.tree.specs.Depths.{kind};
 ghost use Rattle.replies.specs.Programs.{Keeps, longest};
 ghost use Rattle.commands.specs.Commands.{says};
-ghost use Rattle.turns.specs.Places.{Turned, first, goesOn};
+ghost use Rattle.turns.specs.Places.{Ran, Turned, first, goesOn};
 ghost use Rattle.turns.specs.declared.Next.the-variants.{Read};
 use turns::Next;
 use turns::Place;
@@ -112,8 +112,10 @@ fn take_turns(
     place
 }
 
-// The command program of either tree, over arrays of its own.
-pub fn run(deep: bool) {
+// The command program of either tree, over arrays of its own. Returns the place that was reached.
+pub fn run(deep: bool) -> Place
+    ensures { λ r. ⌜ Ran (kind deep) (says deep) r ⌝ }
+{
     let mut text = io::large_buffer();
     let mut out = io::large_buffer();
     let mut links: [u8; 2052] = [0; 2052];
@@ -129,7 +131,7 @@ pub fn run(deep: bool) {
             &mut points,
             &mut text,
             &mut out,
-        );
+        )
     } else {
         let mut head: [u8; 40] = [0; 40];
         let mut nodes: [u8; 5504] = [0; 5504];
@@ -142,6 +144,6 @@ pub fn run(deep: bool) {
             &mut points,
             &mut text,
             &mut out,
-        );
+        )
     }
 }

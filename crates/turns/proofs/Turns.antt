@@ -53,7 +53,7 @@ module _ (k : Kind) (of : List ℕ → Option Call) where
   -- ---- turns one after the other
   pub turns-keep : {input printed : List ℕ} {a : State} {p : Place} {s : Pieces} {text : List ℕ} → Turns k of input printed a p s text → Keeps k (p .held) s a
   turns-keep (begin h) = h
-  turns-keep (turn t on e w) = w .keeps
+  turns-keep (turn t on e n w) = w .keeps
 
   -- a chunk comes behind what is carried, where the read leaves that
   then-came : {input printed : List ℕ} {x : List (Option Call)} {a : State} (p : Place) (text text₁ : List ℕ) (got : ℕ) → Fed k of broken true input x a (p .start) (carried p text) printed → carried p text₁ ≡ carried p text
@@ -65,7 +65,7 @@ module _ (k : Kind) (of : List ℕ → Option Call) where
   -- while something comes next, the beginning of what came is answered, and the rest is carried
   turns-fed : {input printed : List ℕ} {a : State} {p : Place} {s : Pieces} {text : List ℕ} → Turns k of input printed a p s text → goesOn (p .next) ≡ true → Answered k of input a (p .start) (carried p text) printed
   turns-fed (begin h) on = record { said = []; fed = fed-none k of broken true [] }
-  turns-fed (turn {p = p} {text = text} {text₁ = text₁} {got = got} t on e w) more =
+  turns-fed (turn {p = p} {text = text} {text₁ = text₁} {got = got} t on e n w) more =
       let f = turns-fed t on in
       record { said = f .said ++ w .said; fed = fed-then k of (then-came p text text₁ got (f .fed) e) (w .goes-on more) }
 
@@ -73,7 +73,7 @@ module _ (k : Kind) (of : List ℕ → Option Call) where
   pub any-cutting : {input printed : List ℕ} {a : State} {p : Place} {s : Pieces} {text : List ℕ} → Turns k of input printed a p s text → goesOn (p .next) ≡ false → Finished k of broken true input a printed
   unfolding goesOn
   any-cutting (begin h) over = no (sym over)
-  any-cutting (turn {p = p} {text = text} {text₁ = text₁} {got = got} t on e w) over = fed-end (then-came p text text₁ got (turns-fed t on .fed) e) (w .ends on over)
+  any-cutting (turn {p = p} {text = text} {text₁ = text₁} {got = got} t on e n w) over = fed-end (then-came p text text₁ got (turns-fed t on .fed) e) (w .ends on over)
 
   -- two cuttings of one input
   pub cuttings-same : {input p₁ p₂ : List ℕ} {a₁ a₂ : State} {q₁ q₂ : Place} {s₁ s₂ : Pieces} {t₁ t₂ : List ℕ} → Turns k of input p₁ a₁ q₁ s₁ t₁ → goesOn (q₁ .next) ≡ false → Turns k of input p₂ a₂ q₂ s₂ t₂ → goesOn (q₂ .next) ≡ false → (p₁ ≡ p₂) × (a₁ ≡ a₂)

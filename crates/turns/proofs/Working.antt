@@ -240,10 +240,10 @@ module _ (k : Kind) (of : List ℕ → Option Call) (p : Place) (text text₁ : 
     works = h .works;
   }
 
-  pub turned-on : (s : Pieces) (got : ℕ) (p' : Place) (s' : Pieces) (text' out out' : List ℕ) → Turned k of p s text → goesOn (p .next) ≡ true → ((a : State) → Keeps k (p .held) s a → Works k of a p got text₁ p' s s' text' out out') → Turned k of p' s' text'
-  turned-on s got p' s' text' out out' t on f =
+  pub turned-on : (s : Pieces) (got : ℕ) (p' : Place) (s' : Pieces) (text' out out' : List ℕ) → Turned k of p s text → goesOn (p .next) ≡ true → ((a : State) → Keeps k (p .held) s a → Works k of a p got text₁ p' s s' text' out out') → goesOn (p' .next) ≡ not (atEnd (p .next) got) → Turned k of p' s' text'
+  turned-on s got p' s' text' out out' t on f n =
       let w = f (t .state) (turns-keep k of (t .turns)) in
-      record { input = t .input ++ came (p .next) got (p .end) text₁; printed = t .printed ++ take (p' .ready) out'; state = w .state; turns = turn (t .turns) on (carried-same p text text₁ same) w }
+      record { input = t .input ++ came (p .next) got (p .end) text₁; printed = t .printed ++ take (p' .ready) out'; state = w .state; turns = turn (t .turns) on (carried-same p text text₁ same) n w }
 
 -- ---- whether a turn is the last
 pub ends-chunk : (n : Next) (got : ℕ) (g : Bool) → n ≡ next.Read → 0 < got → g ≡ true → g ≡ not (atEnd n got)

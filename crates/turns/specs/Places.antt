@@ -1,6 +1,6 @@
 -- Where a program is in its input, what a turn does, and turns one after the other. Definitions only, for either program: `of` says what one record says.
 use mathlib.Core.Path.{_≡_}
-use mathlib.Core.Bool.{Bool, true, false}
+use mathlib.Core.Bool.{Bool, true, false, not}
 use mathlib.Core.List.{List, [], _++_}
 use mathlib.Core.Option.{Option}
 use Prim.Native.Nat.{ℕ, _+_, _-_, _≤_, _<_}
@@ -85,11 +85,12 @@ pub record Works (k : Kind) (of : List ℕ → Option Call) (a : State) (p : Pla
   pub rest : drop (p' .ready) out' ≡ drop (p' .ready) out
 
 -- Turns from the very start of an input, with no tree: the chunks that came and the ready bytes, each joined in order, and the state, place, pieces and text after them. A turn is made while
--- something comes next, and a read before it leaves what is carried.
+-- something comes next, a read before it leaves what is carried, and nothing comes after it only at the end.
 pub data Turns (k : Kind) (of : List ℕ → Option Call) : (input printed : List ℕ) → State → Place → Pieces → (text : List ℕ) → Type 0 where
   begin : {s : Pieces} {text : List ℕ} → Keeps k false s broken → Turns k of [] [] broken first s text
   turn : {input printed : List ℕ} {a : State} {p : Place} {s : Pieces} {text text₁ : List ℕ} {got : ℕ} {p' : Place} {s' : Pieces} {text' out out' : List ℕ}
-      → Turns k of input printed a p s text → goesOn (p .next) ≡ true → carried p text₁ ≡ carried p text → (w : Works k of a p got text₁ p' s s' text' out out')
+      → Turns k of input printed a p s text → goesOn (p .next) ≡ true → carried p text₁ ≡ carried p text → goesOn (p' .next) ≡ not (atEnd (p .next) got)
+      → (w : Works k of a p got text₁ p' s s' text' out out')
       → Turns k of (input ++ came (p .next) got (p .end) text₁) (printed ++ take (p' .ready) out') (w .state) p' s' text'
 
 -- some such turns lead here; which bytes they read and printed no contract can name
@@ -98,3 +99,9 @@ pub record Turned (k : Kind) (of : List ℕ → Option Call) (p : Place) (s : Pi
   pub printed : List ℕ
   pub state : State
   pub turns : Turns k of input printed state p s text
+
+-- the same of a program that owns its pieces and its text, which nobody sees
+pub record Ran (k : Kind) (of : List ℕ → Option Call) (p : Place) : Type 0 where
+  pub pieces : Pieces
+  pub text : List ℕ
+  pub turned : Turned k of p pieces text

@@ -1,5 +1,5 @@
 use native.Mathlib.Omega.{arith}
-use Rattle.program.proofs.Starts.{starts-oct, starts-quad}
+use Rattle.program.proofs.Starts.{ran, starts-oct, starts-quad}
 use Rattle.program.proofs.run.Statement.{statement}
 use Rattle.program.proofs.run.Tie as tie
 use borrow.Author.Needs.{needs}
@@ -53,10 +53,10 @@ take-turns-requires-2 : tie.Need-take-turns-requires-2
 take-turns-requires-2 c κs = (omega arith, omega arith, starts-quad)
 
 returns : tie.Need-returns
-returns c = search needs
+returns c = ran _ _ _ _ _ (c .before .before .before .before .before .before .before .before .before .before .before .before .before .if1 .taken) (c .before .before .before .before .before .before .take-turns .ensures)
 
 returns-2 : tie.Need-returns-2
-returns-2 c = search needs
+returns-2 c = ran _ _ _ _ _ (c .before .before .before .before .before .before .before .before .before .before .before .before .before .if1 .left) (c .before .before .before .before .before .before .take-turns2 .ensures)
 
 pub run-spec : {M : Type 1} → statement M
 run-spec =
