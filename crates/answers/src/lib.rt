@@ -1,4 +1,6 @@
 // Answers in lent bytes, of points with any number of axes: coordinates of eight bytes each, x first, and payloads of four, low byte first.
+#![tactic(auto)]
+
 ghost use Rattle.std.specs.Prelude.{◌≡◌, [], ◌∷◌, map, ◌+◌, ◌*◌, ◌/◌, ◌<◌, ◌≤◌, min, length, take};
 ghost use Rattle.std.proofs.lemmas.List.Edits.{sets};
 ghost use Rattle.std.specs.Float.{binary64};
@@ -14,7 +16,7 @@ use pieces::{base, payload};
 use words::get_float;
 
 // The reply number and how many points were handed over.
-#[derive(Drop)]
+#[derive(Clone, Copy)]
 pub struct Told {
     pub reply: u32,
     pub count: u32,

@@ -1,4 +1,6 @@
 // One axis of a box: a corner and an extent. The boxes of `plane` and `space` are two and three of these.
+#![tactic(auto)]
+
 ghost use Rattle.std.specs.Prelude.{◌≡◌, ◌≤◌};
 ghost use Rattle.std.specs.Float.{binary64};
 ghost use Rattle.floats.specs.Span.{lengthened, span, short};

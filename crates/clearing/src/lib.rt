@@ -1,4 +1,6 @@
 // A pool with nothing in it: every place and every group is free, and the root is empty.
+#![tactic(auto)]
+
 ghost use Rattle.std.specs.Prelude.{◌≡◌, ◌-◌, ◌/◌, length, set};
 ghost use Rattle.words.specs.Words.{words};
 ghost use Rattle.pool.specs.Writes.{pool, pushed_down, given_down, named, emptied};

@@ -1,4 +1,5 @@
 // The commands of both programs, and the one that a record says.
+#![tactic(auto)]
 ghost use Rattle.std.specs.Prelude.{◌≡◌, cond};
 ghost use Rattle.record.specs.Commands.{word_of};
 ghost use Rattle.commands.specs.Commands.{call_in, flattened, made, says};
@@ -9,7 +10,7 @@ use record::numbers::Whole;
 use tree::region::axes;
 
 // A record's command with its numbers, or that it is not understood. One enum serves both programs: where places have no z, every z and depth is +0 and not looked at.
-#[derive(Drop)]
+#[derive(Clone, Copy)]
 pub enum Command {
     Create(f64, f64, f64, f64, f64, f64, u32),
     Insert(f64, f64, f64, u32),

@@ -1,4 +1,5 @@
 // What each command does, and its line.
+#![tactic(auto)]
 ghost use Rattle.std.specs.Prelude.{◌≡◌, ℕ, ◌+◌, ◌<◌, ◌≤◌, length, Float};
 ghost use Rattle.trees.specs.Pieces.{pieces};
 ghost use Rattle.tree.specs.Depths.{kind};
@@ -14,7 +15,7 @@ use tree_insert::insert;
 use tree_queries::{ask, search};
 
 // Whether a tree is held, and where the next line goes.
-#[derive(Drop)]
+#[derive(Clone, Copy)]
 pub struct After {
     pub held: bool,
     pub at: usize,

@@ -1,4 +1,6 @@
 // The fields of a record: its word, and the numbers after it.
+#![tactic(auto)]
+
 ghost use Rattle.std.specs.Prelude.{◌≡◌, [], ℕ, ◌<◌, ◌≤◌, length, get_or};
 ghost use Rattle.record.specs.Text.{split};
 ghost use Rattle.record.specs.Numbers.{number_of};

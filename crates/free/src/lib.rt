@@ -1,4 +1,6 @@
 // Free places and free groups of nodes, each a list from which the first is taken and to whose front one is given back.
+#![tactic(auto)]
+
 ghost use Rattle.std.specs.Prelude.{◌≡◌, get_or};
 ghost use Rattle.words.specs.Words.{words};
 ghost use Rattle.pool.specs.Writes.{popped, pushed, taken, given};

@@ -6,14 +6,14 @@ ghost use Rattle.geometry.specs.Sides.{sides2, place2};
 use axis;
 
 #[repr(C)]
-#[derive(Drop)]
+#[derive(Clone, Copy)]
 pub struct Point2D {
     pub x: f64,
     pub y: f64,
 }
 
 #[repr(C)]
-#[derive(Drop)]
+#[derive(Clone, Copy)]
 pub struct Rectangle {
     pub x: f64,
     pub y: f64,

@@ -6,7 +6,7 @@ ghost use Rattle.geometry.specs.Sides.{sides3, place3};
 use axis;
 
 #[repr(C)]
-#[derive(Drop)]
+#[derive(Clone, Copy)]
 pub struct Point3D {
     pub x: f64,
     pub y: f64,
@@ -14,7 +14,7 @@ pub struct Point3D {
 }
 
 #[repr(C)]
-#[derive(Drop)]
+#[derive(Clone, Copy)]
 pub struct Cube {
     pub x: f64,
     pub y: f64,

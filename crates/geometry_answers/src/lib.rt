@@ -1,4 +1,6 @@
 // What is answered, and how it is shown.
+#![tactic(auto)]
+
 ghost use Rattle.std.specs.Prelude.{◌≡◌, [], ◌∷◌, ◌++◌, ◌+◌, ◌<◌, ◌≤◌, length};
 ghost use Rattle.std.proofs.lemmas.List.Edits.{sets};
 ghost use Rattle.record.specs.Numbers as Numbers;
@@ -9,7 +11,7 @@ ghost use Rattle.geometry.specs.Sides.{sides2, sides3};
 use geometry::plane::Rectangle;
 use geometry::space::Cube;
 
-#[derive(Drop)]
+#[derive(Clone, Copy)]
 pub enum Answer {
     Number(f64),
     Yes(bool),

@@ -1,7 +1,7 @@
 -- Laws of the tests by which a question is found: a count and a word. Assumes nothing.
 use Prim.Native.Nat.{ℕ, zero, suc}
 use mathlib.Core.Path.{◌≡◌, refl, sym, ap₂, ◌∙◌, subst}
-use mathlib.Core.Bool.{Bool, true, false, not, ◌&&◌, and_false, and-eq-true_iff}
+use mathlib.Core.Bool.{Bool, true, false, not, ◌&&◌, and-false, and-eq-true_iff}
 use mathlib.Core.List.{List, [], ◌∷◌}
 use lib.Dec.{T, eqb}
 use lib.Ieee.{Float}
@@ -28,7 +28,7 @@ own [] k v a = absurd (subst T (sym a) tt)
 own (q ∷ qs) zero v a = simp (eq-eqb q.count q.count refl, same_refl q.word)
 own (q ∷ qs) (suc k) v a =
     let both = (and-eq-true_iff (not (same (row qs k).word q.word)) (alone qs k)).0 a in
-    own qs k v both.1 ∙ simp (not-true (same (row qs k).word q.word) both.0, and_false)
+    own qs k v both.1 ∙ simp (not-true (same (row qs k).word q.word) both.0, and-false)
 
 -- the test of a question was met
 pub met : (qs : List Question) (k n : ℕ) (r : Bool) (w : List ℕ) (v : List Float) {x : Said} → alone qs k ≡ true → x ≡ (row qs k).says v → (r ≡ true → w ≡ (row qs k).word) → eqb n (row qs k).count && r ≡ true → x ≡ answer qs n w v

@@ -1,4 +1,6 @@
 // A line as a question: its word, its numbers, and what the geometry answers.
+#![tactic(auto)]
+
 ghost use Rattle.std.specs.Prelude.{◌≡◌, drop};
 ghost use Rattle.geometry_answers.specs.Shown.{said_in};
 ghost use Rattle.geometry_questions.specs.Asked as Asked;

@@ -1,6 +1,8 @@
 // Groups of nodes as a whole: whether enough are free, the split of a node and the merge of its children.
 // What is written and what it means is defined in `pool`, whose functions these put together. Total as those are; a walk
 // over a list has no more steps than there are links.
+#![tactic(auto)]
+
 ghost use Rattle.std.specs.Prelude.{◌≡◌, ◌<◌, length, get_or};
 ghost use Rattle.words.specs.Words.{words};
 ghost use Rattle.pool.specs.Writes.{pool, enough, cleared, cleared_from, turn_at, dealing, parted, hooked, either, laid, merged};

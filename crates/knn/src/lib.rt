@@ -1,5 +1,7 @@
 // The candidate table of k nearest: knn.rs, with a table in place of the heap. Its distances and its items lie in two
 // lent arrays, so that nothing is copied, and a count says how many entries it holds.
+#![tactic(auto)]
+
 ghost use Rattle.std.specs.Prelude.{◌≡◌, ◌<◌, min, length, take};
 ghost use Rattle.model.specs.Searches.{less};
 ghost use Rattle.knn.specs.Candidates.{Written, at, entries, settle, kept, ByModel, bar, ordered};

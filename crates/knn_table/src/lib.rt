@@ -1,11 +1,13 @@
 // The candidate table by value: "arrays of 512 filled at the start, for distances and point places".
+#![tactic(auto)]
+
 ghost use Rattle.std.specs.Prelude.{◌≡◌, length, replicate};
 ghost use Rattle.floats.specs.Values.{plus_zero};
 ghost use Rattle.knn.specs.Candidates.{Written, kept, ByModel, Offered};
 
 // Laid out as C has it, so that the oracle can lend one.
 #[repr(C)]
-#[derive(Drop)]
+#[derive(Clone, Copy)]
 pub struct Table {
     pub dist: [f64; 512],
     pub item: [u32; 512],

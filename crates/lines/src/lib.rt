@@ -1,10 +1,12 @@
 // Where a record stands in a line, and what is kept of an input whose line has not ended.
+#![tactic(auto)]
+
 ghost use Rattle.std.specs.Prelude.{◌≡◌, ◌-◌, ◌≤◌, min, leb, length, take, drop};
 ghost use Rattle.std.proofs.lemmas.List.Edits.{sets};
 ghost use Rattle.record.specs.Input.{strip, begun};
 
 // The record of a line: from index `from` up to `to`, and whether it has at most 128 bytes.
-#[derive(Drop)]
+#[derive(Clone, Copy)]
 pub struct Line {
     pub from: usize,
     pub to: usize,

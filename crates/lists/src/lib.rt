@@ -1,4 +1,6 @@
 // The lists of places: a place is put at the end of a node's list, or taken out of it.
+#![tactic(auto)]
+
 ghost use Rattle.std.specs.Prelude.{◌≡◌};
 ghost use Rattle.words.specs.Words.{words};
 ghost use Rattle.pool.specs.Writes.{pool, ended, appended, relasted, cut_out};

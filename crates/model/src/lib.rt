@@ -1,1 +1,2 @@
 // What the trees mean, as definitions in specs/, and what is true of it, in proofs/. Nothing here runs.
+#![tactic(auto)]

@@ -1,4 +1,5 @@
 // The octree's command program.
+#![tactic(auto)]
 fn main() {
     program::run(true);
 }

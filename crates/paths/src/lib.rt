@@ -1,4 +1,6 @@
 // What both trees note on their way, and what they do along it. Nothing here knows of boxes: a way is a list of nodes that was noted when it was gone.
+#![tactic(auto)]
+
 ghost use Rattle.std.specs.Prelude.{◌≡◌, cond, [], ◌∷◌, ℕ, drop, take};
 ghost use Rattle.words.specs.Words.{words};
 ghost use Rattle.model.specs.Trees.{Point};

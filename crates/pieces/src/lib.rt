@@ -1,5 +1,7 @@
 // What is read from the pieces of either tree without looking at a coordinate: their lengths, the capacity, how many points are held, a payload; and the answer of a creation.
 // Each contract is over any kind of tree or any number of axes.
+#![tactic(auto)]
+
 ghost use Rattle.std.specs.Prelude.{◌≡◌, List, ℕ, ◌+◌, ◌*◌, ◌<◌};
 ghost use Rattle.words.specs.Words.{words};
 ghost use Rattle.model.specs.Calls.{IsEmpty, Kind, Len};
@@ -67,7 +69,7 @@ pub fn payload(axes: u8, points: &[u8], p: u32) -> u32
 }
 
 // The answer of a creation: the capacity of the tree that is to be made, or the number of the refusal.
-#[derive(Drop)]
+#[derive(Clone, Copy)]
 pub enum Creation {
     Made(u32),
     Refused(u32),

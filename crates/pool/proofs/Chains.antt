@@ -1,5 +1,5 @@
 -- Laws of chains: words that agree, one chain behind another, and how long a chain is. Assumes nothing.
-use mathlib.Core.Path.{◌≡◌, refl, ap, sym, ◌∙◌}
+use mathlib.Core.Path.{◌≡◌, refl, ap, sym, subst, ◌∙◌}
 use mathlib.Core.Logic.{◌≢◌}
 use mathlib.Core.List.{List, [], ◌∷◌, ◌++◌}
 use Prim.Native.Nat.{ℕ, zero, suc, ◌+◌, ◌<◌, ◌≤◌}
@@ -36,7 +36,7 @@ link (r ∷ l) m x a q b c d cm = (
   c.0,
   c.1,
   lt-length-set x (last_or r l) b c.2,
-  rw (get_or-set_other x (last_or r l) q b 0 (λ e. occ_last r l (rw (← e) (omega (arith, d q, is_same q)))))
+  rw (get_or-set_other x (last_or r l) q b 0 (λ e. occ_last r l (subst (λ v. occ v (r ∷ l) ≡ 0) e (omega (arith, d q, is_same q)))))
       (link l m x (get_or x q 0) r b c.3 (λ w. omega (arith, d w)) cm),
 )
 

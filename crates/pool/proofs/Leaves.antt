@@ -163,7 +163,7 @@ cut_chain (r ∷ m) l x h q p c o = (
   c.1,
   lt-length-set x (last_or r m) (get_or x p 0) c.2,
   subst (λ v. Chain (set x (last_or r m) (get_or x p 0)) v (r ∷ (m ++ l)))
-      (sym (get_or-set_other x (last_or r m) q (get_or x p 0) 0 (λ e. occ_last r m (rw (← e) (omega (arith, o q, is_same q, occ_append q m (p ∷ l)))))))
+      (sym (get_or-set_other x (last_or r m) q (get_or x p 0) 0 (λ e. occ_last r m (subst (λ v. occ v (r ∷ m) ≡ 0) e (omega (arith, o q, is_same q, occ_append q m (p ∷ l)))))))
       (cut_chain m l x (get_or x q 0) r p c.3 (λ v. omega (arith, o v))),
 )
 

@@ -2,6 +2,8 @@
 // `ways` is how many children a node has, so that both trees use the same functions. Nothing here knows of coordinates.
 // Every function is total: a place or a node that is not there reads as 0 and is not written. 0 is no place and no group, and who appends it or gives it
 // back loses what is free; what is then written is defined too (`Writes`).
+#![tactic(auto)]
+
 ghost use Rattle.std.specs.Prelude.{◌≡◌, ◌+◌, ◌*◌, ◌<◌, get_or, set};
 ghost use Rattle.words.specs.Words.{words};
 ghost use Rattle.pool.specs.Writes.{kid, counted, lowered};

@@ -1,4 +1,5 @@
 // A command program over either tree: reads records from standard input and prints their answers.
+#![tactic(auto)]
 ghost use Rattle.std.specs.Prelude.{false, ◌≡◌, ◌≤◌, ◌<◌, length};
 ghost use Rattle.model.specs.Calls.{broken};
 ghost use Rattle.trees.specs.Pieces.{pieces};

@@ -1,4 +1,5 @@
 // The quadtree's command program.
+#![tactic(auto)]
 fn main() {
     program::run(false);
 }

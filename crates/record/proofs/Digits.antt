@@ -1,7 +1,7 @@
 -- Laws of one field as a number. Assumes nothing.
 use Prim.Native.Nat.{ℕ, ◌+◌, ◌-◌, ◌*◌, ◌^◌, ◌≤◌, ◌<◌}
 use mathlib.Core.Path.{◌≡◌, refl, sym, ap, ◌∙◌, subst}
-use mathlib.Core.Bool.{Bool, true, false, not, ◌&&◌, ◌||◌, and_false, and-eq-true_iff}
+use mathlib.Core.Bool.{Bool, true, false, not, ◌&&◌, ◌||◌, and-false, and-eq-true_iff}
 use mathlib.Core.List.{List, [], ◌∷◌}
 use mathlib.Core.Option.{none, some}
 use native.Mathlib.Nat.{le_refl, le_trans, pow-succ', pow-le-pow_right, lt_of_lt_of_le}
@@ -132,7 +132,7 @@ number_short s h = simp (ne_eqb (length s) 16 h)
 
 pub number_bad : (s : List ℕ) → digits 16 s ≡ false → none ≡ number_of s
 unfolding number_of
-number_bad s e = simp (e, and_false)
+number_bad s e = simp (e, and-false)
 
 pub number_good : (s : List ℕ) (n : ℕ) → length s ≡ 16 → digits 16 s ≡ true → n ≡ value 16 0 s → some (of_bits binary64 n) ≡ number_of s
 unfolding number_of
@@ -144,11 +144,11 @@ whole_unled s e = simp e
 
 pub whole_bad : (s : List ℕ) → digits 10 s ≡ false → none ≡ whole_of s
 unfolding whole_of
-whole_bad s e = simp (e, and_false)
+whole_bad s e = simp (e, and-false)
 
 pub whole_large : (s : List ℕ) (n i : ℕ) → 4294967295 < n → value 10 n (drop i s) ≡ value 10 0 s → none ≡ whole_of s
 unfolding whole_of
-whole_large s n i h e = simp (lt-leb (value 10 0 s) 4294967295 (omega (arith, value_least n (drop i s))), and_false)
+whole_large s n i h e = simp (lt-leb (value 10 0 s) 4294967295 (omega (arith, value_least n (drop i s))), and-false)
 
 pub whole_good : (s : List ℕ) (n : ℕ) → led s ≡ true → digits 10 s ≡ true → n ≤ 4294967295 → n ≡ value 10 0 s → some n ≡ whole_of s
 unfolding whole_of

@@ -1,7 +1,7 @@
 -- Laws of the numbers after a word, as the code reads them: floats in steps of 17 bytes, and the last field whole. Assumes nothing.
 use Prim.Native.Nat.{ℕ, zero, suc, ◌+◌, ◌-◌, ◌≤◌, ◌<◌, suc-le-suc}
 use mathlib.Core.Path.{◌≡◌, refl, sym, ap, ap₂, ◌∙◌, subst}
-use mathlib.Core.Bool.{Bool, true, false, cond, ◌&&◌, ◌||◌, and_false}
+use mathlib.Core.Bool.{Bool, true, false, cond, ◌&&◌, ◌||◌, and-false}
 use mathlib.Core.List.{List, [], ◌∷◌}
 use mathlib.Core.Option.{Option, none, some}
 use native.Mathlib.Nat.{not-suc-le-zero, le_of_suc-le-suc}
@@ -39,7 +39,7 @@ digits_without base c h d [] e = sym e
 digits_without base c h d (b ∷ s) e =
     by_or (eqb b c) (has c s) e
     (λ q. let z : digit b ≡ 16 = ap digit (eqb-true b c q) ∙ d in simp (le-ltb (digit b) base (omega arith)))
-    (λ q. simp (digits_without base c h d s q, and_false))
+    (λ q. simp (digits_without base c h d s q, and-false))
 
 or_true : (a : Bool) → a || true ≡ true
 or_true true = refl

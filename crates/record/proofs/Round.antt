@@ -1,7 +1,7 @@
 -- What is printed is read back as the same number. Assumes that a float is one of binary64, and that a whole number has at most 32 bits.
 use Prim.Native.Nat.{ℕ, zero, suc, ◌+◌, ◌*◌, ◌/◌, ◌%◌, ◌^◌, ◌≤◌, ◌<◌}
 use mathlib.Core.Path.{◌≡◌, refl, sym, ap, ◌∙◌, subst}
-use mathlib.Core.Bool.{Bool, true, false, cond, ◌&&◌, and_true, and_assoc}
+use mathlib.Core.Bool.{Bool, true, false, cond, ◌&&◌, and-true, and_assoc}
 use mathlib.Core.List.{List, [], ◌∷◌, ◌++◌}
 use mathlib.Core.Option.{some}
 use native.Mathlib.Nat.{mod-lt, div-add-mod', div-lt_iff_lt-mul, mul_comm, pow-succ', pow-zero, not-suc-le-zero}
@@ -37,7 +37,7 @@ value_snoc base n (x ∷ xs) b = value_snoc base (base * n + digit x) xs b
 
 digits_snoc : (base : ℕ) (xs : List ℕ) (b : ℕ) → digits base (xs ++ (b ∷ [])) ≡ digits base xs && ltb (digit b) base
 unfolding digits
-digits_snoc base [] b = and_true _
+digits_snoc base [] b = and-true _
 digits_snoc base (x ∷ xs) b = ap (λ (t : Bool). ltb (digit x) base && t) (digits_snoc base xs b) ∙ sym (and_assoc (ltb (digit x) base) (digits base xs) (ltb (digit b) base))
 
 pub spelt_length : (base k n : ℕ) → length (spelt base k n) ≡ k

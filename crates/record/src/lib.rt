@@ -1,8 +1,10 @@
 // The records of the command programs: what a record says, and where it ends. For either program.
+#![tactic(auto)]
+
 pub mod numbers;
 
 // The words with which a record begins, or that it begins with none of them.
-#[derive(Drop)]
+#[derive(Clone, Copy)]
 pub enum Word {
     Create,
     Insert,

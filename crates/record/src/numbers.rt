@@ -7,14 +7,14 @@ ghost use Rattle.record.specs.Read.{float_in, whole_in};
 use floats::from_bits;
 
 // A field as a float.
-#[derive(Drop)]
+#[derive(Clone, Copy)]
 pub enum Number {
     Value(f64),
     Not,
 }
 
 // A field as a whole number.
-#[derive(Drop)]
+#[derive(Clone, Copy)]
 pub enum Whole {
     Value(u32),
     Not,

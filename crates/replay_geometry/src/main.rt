@@ -1,11 +1,12 @@
 // Answers questions about boxes, one to a line: a word and its numbers, as `span,LO,HI`. Numbers are the 16 hex digits of their bits.
 // A line that is not understood is answered with a question mark.
+#![tactic(auto)]
 ghost use Rattle.std.specs.Prelude.{◌+◌, ◌≤◌, ◌<◌, true, ◌≡◌, length, set};
 
 use libc::{STDIN_FILENO, STDOUT_FILENO};
 
 // How much of a line is read, whether it is too long for any question, and whether there is more input.
-#[derive(Drop)]
+#[derive(Clone, Copy)]
 struct Line {
     len: usize,
     long: bool,

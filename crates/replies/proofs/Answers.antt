@@ -2,7 +2,7 @@
 use Prim.Native.Nat.{ℕ, ◌+◌, ◌*◌, ◌≤◌, ◌<◌}
 use mathlib.Core.Path.{◌≡◌, refl, sym, ap, ◌∙◌, subst}
 use mathlib.Core.Logic.{◌≢◌}
-use mathlib.Core.Bool.{Bool, true, false, ◌||◌, or_false, or_true}
+use mathlib.Core.Bool.{Bool, true, false, ◌||◌, or-false, or-true}
 use mathlib.Core.List.{List, [], ◌++◌}
 use mathlib.Core.Option.{Option, none, some}
 use native.Mathlib.Nat.{le_trans, mul-le-mul_left}
@@ -59,7 +59,7 @@ heard_none k a c e f = rw (e, f, heard)
 
 heard_create : (k : Kind) (a : State) (b : List Side) (cap : ℕ) → heard k a (Create b cap) ≡ step k a (Create b cap)
 unfolding heard makes
-heard_create k a b cap = ap (λ (t : Bool). elim t as (λ u. Outcome) [ true ↦ step k a (Create b cap) | false ↦ refuse no_tree a ]) (or_true (held? a))
+heard_create k a b cap = ap (λ (t : Bool). elim t as (λ u. Outcome) [ true ↦ step k a (Create b cap) | false ↦ refuse no_tree a ]) (or-true (held? a))
 
 -- ---- what stands after the reply number
 -- nothing, and a reply other than 0 says that nothing changed
@@ -128,8 +128,8 @@ HeldAfter a o = held? a || eqb (number o.reply) 0 ≡ held? o.state
 create_held : (a : State) (b : List Side) (cap : ℕ) → HeldAfter a (create a b cap)
 unfolding create number
 create_held a b cap =
-    cond_same (HeldAfter a) (eqb cap 0) (refuse no_capacity a) _ (λ h. or_false (held? a))
-    (λ h. cond_same (HeldAfter a) (acceptable b) (give (tree (empty b cap)) 0) (refuse bad_boundary a) (λ i. or_true (held? a) ∙ sym (tree_held (empty b cap))) (λ i. or_false (held? a)))
+    cond_same (HeldAfter a) (eqb cap 0) (refuse no_capacity a) _ (λ h. or-false (held? a))
+    (λ h. cond_same (HeldAfter a) (acceptable b) (give (tree (empty b cap)) 0) (refuse bad_boundary a) (λ i. or-true (held? a) ∙ sym (tree_held (empty b cap))) (λ i. or-false (held? a)))
 
 step_held : (k : Kind) (a : State) (b : List Side) (cap : ℕ) → HeldAfter a (step k a (Create b cap))
 unfolding step call on_broken held? number

@@ -1,4 +1,6 @@
 // The lines of answers, for either program, written to a lent slice. Where there is no room nothing is written. An answer is printed from the bytes that a search hands over, so no float is made here.
+#![tactic(auto)]
+
 ghost use Rattle.std.specs.Prelude.{◌≡◌, [], ◌∷◌, ◌++◌, ◌+◌, ◌*◌, ◌<◌, ◌≤◌, length, leb};
 ghost use Rattle.model.specs.Calls.{Kind, State};
 ghost use Rattle.trees.specs.Pieces.{room_for};

@@ -1,1 +1,2 @@
 // What is true of any calls on a tree that meet the contracts: theorems only.
+#![tactic(auto)]

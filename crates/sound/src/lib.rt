@@ -1,5 +1,7 @@
 // What the soundness tests of both trees share: marks for places and groups that were met, lists of free ones, bounds of a node, the test of a boundary's side.
 // All end on any bytes.
+#![tactic(auto)]
+
 ghost use Rattle.std.specs.Prelude.{◌≡◌, ◌&&◌, cond, ◌*◌, ◌<◌, ◌≤◌, length, get_or};
 ghost use Rattle.std.specs.Float.Ieee.{le};
 ghost use Rattle.std.specs.Float.{nan};

@@ -1,4 +1,5 @@
 // The input, line by line.
+#![tactic(auto)]
 ghost use Rattle.std.specs.Prelude.{true, false, ◌≡◌, ◌+◌, ◌≤◌, ◌<◌, length, drop};
 ghost use Rattle.model.specs.Calls.{State};
 ghost use Rattle.trees.specs.Pieces.{pieces};
@@ -17,7 +18,7 @@ use tree::region::axes;
 
 // What became of a text's first line: it was answered, with the bytes read, where the next line goes and whether a tree is held; or it has not ended; or there is no
 // room for an answer.
-#[derive(Drop)]
+#[derive(Clone, Copy)]
 pub enum Step {
     Line(usize, usize, bool),
     Unended,
@@ -25,7 +26,7 @@ pub enum Step {
 }
 
 // How far the reading came: bytes read, where the next line goes, whether the very start is still ahead, whether a tree is held, and whether it stopped for want of room.
-#[derive(Drop)]
+#[derive(Clone, Copy)]
 pub struct Progress {
     pub read: usize,
     pub to: usize,

@@ -21,7 +21,7 @@ use tree::region;
 use tree::region::{axes, kid};
 
 // A node with its box, the levels below it, and how many nodes were noted on the way to it.
-#[derive(Drop)]
+#[derive(Clone, Copy)]
 pub struct Leaf {
     pub node: usize,
     pub bounds: Cube,
@@ -70,7 +70,7 @@ pub fn leaf_of(
 }
 
 // Where a point stands in its list: its place or 0, and the place before it or 0.
-#[derive(Drop)]
+#[derive(Clone, Copy)]
 pub struct Spot {
     pub place: u32,
     pub before: u32,

@@ -13,7 +13,7 @@ use tree::region::axes;
 use words::{get, get_float};
 
 // The reply, and how many points were stored.
-#[derive(Drop)]
+#[derive(Clone, Copy)]
 pub struct Stored {
     pub reply: u32,
     pub count: usize,

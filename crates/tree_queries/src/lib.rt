@@ -1,3 +1,4 @@
 // The queries of both trees, on pieces that hold a sound tree.
+#![tactic(auto)]
 pub mod ask;
 pub mod search;

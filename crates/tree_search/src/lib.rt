@@ -1,3 +1,5 @@
 // What lies near a place or in a box, below a node.
+#![tactic(auto)]
+
 pub mod nearest;
 pub mod search;

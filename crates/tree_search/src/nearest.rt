@@ -18,7 +18,7 @@ use tree::region;
 use tree::region::{kid, ways};
 
 // Children by their node distances; where there are four, what stands behind them is not looked at.
-#[derive(Drop)]
+#[derive(Clone, Copy)]
 pub struct Order {
     pub dist: [f64; 8],
     pub item: [u32; 8],

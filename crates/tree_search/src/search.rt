@@ -16,7 +16,7 @@ use tree::region;
 use tree::region::{kid, ways};
 
 // What is asked: the points within a squared radius, or those in a box.
-#[derive(Drop)]
+#[derive(Clone, Copy)]
 pub enum Question {
     Radius(Point3D, f64),
     Box(Cube),

@@ -1,4 +1,5 @@
 // One turn of a program: it answers what is there, and says what comes next. It reads and writes no file.
+#![tactic(auto)]
 ghost use Rattle.std.specs.Prelude.{not, true, ◌≡◌, ◌+◌, ◌≤◌, length};
 ghost use Rattle.model.specs.Calls.{State};
 ghost use Rattle.trees.specs.Pieces.{pieces};
@@ -12,7 +13,7 @@ use replies::finish;
 use stream::feed;
 
 // What comes next: to read behind what is carried, to go on with what is there, or nothing.
-#[derive(Drop)]
+#[derive(Clone, Copy)]
 pub enum Next {
     Read,
     Work,
@@ -21,7 +22,7 @@ pub enum Next {
 
 // Where a program is: where the bytes of the text that are not answered begin and end, whether the very start is still ahead, whether a tree is held, how many bytes
 // of answers are ready to be written, and what comes next.
-#[derive(Drop)]
+#[derive(Clone, Copy)]
 pub struct Place {
     pub from: usize,
     pub end: usize,

@@ -1,0 +1,16 @@
+-- `geometry_answers::put`: what its loops keep, and what grows less. Assumes nothing.
+use Prim.Native.Nat.{◌≤◌}
+use mathlib.Core.Path.{◌≡◌, refl, sym, ◌∙◌}
+use lib.ListN.{length}
+use lib.Seq.{sets}
+use Rattle.record.specs.Numbers.{spelt}
+use Rattle.record.proofs.Spelling.{spelt_turn, spelt_done}
+use Rattle.geometry_answers.proofs.Texts.{number_put}
+use borrow.Author.Rules.{rules}
+use Rattle.geometry_answers.proofs.put.Given as goal
+
+abbrev pub invariant-loop-k : goal.invariant-loop-k
+invariant-loop-k l = (l.k ≤ 16) × (length l.out ≡ length l.initial.out) × (sets l.out l.at (spelt 16 l.k l.left) ≡ sets l.initial.out l.at (spelt 16 16 l.initial.left))
+
+abbrev pub decreases-loop-k : goal.decreases-loop-k
+decreases-loop-k l = l.k

@@ -1,0 +1,10 @@
+-- `groups::split`: the goals that the search leaves. Assumes nothing.
+use Rattle.groups.proofs.Walks.{splits, splits_none}
+use borrow.Author.Rules.{rules}
+use Rattle.groups.proofs.split.Goals as goal
+
+pub returns-then-free-eq0 : goal.returns-then-free-eq0
+returns-then-free-eq0 c = let r = splits_none _ _ _ _ _ _ c.get-free.ensures c.if-free-eq0.true in record { value = r.0; tree = r.1 }
+
+pub returns : goal.returns
+returns c = let r = splits _ _ _ _ _ _ _ _ _ _ _ _ _ c.get-free.ensures c.if-free-eq0.false c.first-head.ensures c.take_group-k.ensures.value.0 c.take_group-k.ensures.value.1 c.child-j.ensures.value c.clear_nodes.ensures c.set_field.ensures c.deal.ensures in record { value = r.0; tree = r.1 }

@@ -1,0 +1,15 @@
+-- `replies::glyph`: the goals that the search leaves. Assumes nothing.
+use native.Mathlib.Omega.{arith}
+use lib.Dec.{ltb}
+use Rattle.replies.proofs.Written.{letter_small, glyph_is}
+use borrow.Author.Rules.{rules}
+use Rattle.replies.proofs.glyph.Goals as goal
+
+pub overflow_mul-result : goal.overflow_mul-result
+overflow_mul-result c = omega (arith, letter_small (ltb 9 c.args.d))
+
+pub overflow_add-result-2 : goal.overflow_add-result-2
+overflow_add-result-2 c = omega (arith, letter_small (ltb 9 c.args.d))
+
+pub returns : goal.returns
+returns c = glyph_is _

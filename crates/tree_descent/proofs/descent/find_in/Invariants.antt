@@ -1,0 +1,18 @@
+-- `tree_descent::descent::find_in`: what its loops keep, and what grows less. Assumes nothing.
+use mathlib.Core.Path.{◌≡◌, refl, sym, ◌∙◌}
+use native.Mathlib.Omega.{arith}
+use Rattle.words.specs.Words.{words}
+use Rattle.words.proofs.Words.{length_words}
+use Rattle.model.specs.Trees.{same}
+use Rattle.pool.specs.Read.{chain}
+use Rattle.trees.specs.Points.{point_at}
+use Rattle.trees.proofs.Finds.{seek, seek_end, seek_hit, seek_next, seek_stop, seek_whole}
+use borrow.Author.Rules.{rules}
+use Rattle.tree.specs.Depths.{kind, place}
+use Rattle.tree_descent.proofs.descent.find_in.Given as goal
+
+abbrev pub invariant-loop-left : goal.invariant-loop-left
+invariant-loop-left l = seek (λ l.p. same (record { at = place l.deep l.point; payload = l.mark }) (point_at (kind l.deep).axes (words l.points) l.p)) (chain l.left (words l.links) l.p) l.b ≡ seek (λ l.p. same (record { at = place l.deep l.point; payload = l.mark }) (point_at (kind l.deep).axes (words l.points) l.p)) (chain l.initial.left (words l.links) l.initial.p) l.initial.b
+
+abbrev pub decreases-loop-left : goal.decreases-loop-left
+decreases-loop-left l = l.left

@@ -1,0 +1,17 @@
+-- `tree_search::search::collect_list`: what its loops keep, and what grows less. Assumes nothing.
+use mathlib.Core.Path.{ap, ◌∙◌}
+use native.Mathlib.Omega.{arith}
+use Rattle.words.specs.Words.{words}
+use Rattle.words.proofs.Words.{length_words}
+use Rattle.trees.specs.Points.{point_at}
+use Rattle.trees.proofs.Collects.{Listing, listing_start, listing_step, listing_stop, listing_end}
+use Rattle.tree_search.specs.Questions.{takes}
+use borrow.Author.Rules.{rules}
+use Rattle.tree.specs.Depths.{kind}
+use Rattle.tree_search.proofs.search.collect_list.Given as goal
+
+abbrev pub invariant-loop-left : goal.invariant-loop-left
+invariant-loop-left l = Listing (λ l.p. takes l.deep l.q (point_at (kind l.deep).axes (words l.points) l.p).at) (words l.links) l.initial.left l.initial.p l.initial.found l.initial.m l.found l.left l.p l.m
+
+abbrev pub decreases-loop-left : goal.decreases-loop-left
+decreases-loop-left l = l.left
