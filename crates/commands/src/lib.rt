@@ -1,5 +1,6 @@
 // The commands of both programs, and the one that a record says.
 #![tactic(auto)]
+
 ghost use Rattle.std.specs.Prelude.{◌≡◌, cond};
 ghost use Rattle.record.specs.Commands.{word_of};
 ghost use Rattle.commands.specs.Commands.{call_in, flattened, made, says};

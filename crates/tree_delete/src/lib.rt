@@ -1,5 +1,6 @@
 // Deletion: delete of the Rust. The place is found before anything is written.
 #![tactic(auto)]
+
 ghost use Rattle.std.specs.Prelude.{ℕ, take};
 ghost use Rattle.model.specs.Calls.{Delete, ways};
 ghost use Rattle.model.specs.Trees.{Point};

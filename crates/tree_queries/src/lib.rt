@@ -1,4 +1,5 @@
 // The queries of both trees, on pieces that hold a sound tree.
 #![tactic(auto)]
+
 pub mod ask;
 pub mod search;

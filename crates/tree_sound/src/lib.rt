@@ -1,6 +1,7 @@
 // The soundness test: whether pieces of any bytes hold a sound tree. It marks every place and every group that it meets and stops at the first that
 // comes twice or lies outside, so that it ends, and visits no more than there are.
 #![tactic(auto)]
+
 ghost use Rattle.std.specs.Prelude.{◌≡◌, suc, replicate};
 ghost use Rattle.words.specs.Words.{words};
 ghost use Rattle.model.specs.Calls.{ways};

@@ -1,5 +1,6 @@
 // What the soundness test asks of an undivided node: its list, and where the points of the list lie. The bounds of a node are narrowed here, from those of its parent.
 #![tactic(auto)]
+
 ghost use Rattle.std.specs.Prelude.{◌≡◌, ◌&&◌, not};
 ghost use Rattle.std.specs.Float.Ieee.{le};
 ghost use Rattle.words.specs.Words.{words};

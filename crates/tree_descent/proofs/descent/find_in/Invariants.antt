@@ -12,7 +12,7 @@ use Rattle.tree.specs.Depths.{kind, place}
 use Rattle.tree_descent.proofs.descent.find_in.Given as goal
 
 abbrev pub invariant-loop-left : goal.invariant-loop-left
-invariant-loop-left l = seek (λ l.p. same (record { at = place l.deep l.point; payload = l.mark }) (point_at (kind l.deep).axes (words l.points) l.p)) (chain l.left (words l.links) l.p) l.b ≡ seek (λ l.p. same (record { at = place l.deep l.point; payload = l.mark }) (point_at (kind l.deep).axes (words l.points) l.p)) (chain l.initial.left (words l.links) l.initial.p) l.initial.b
+invariant-loop-left l = seek (λ p. same (record { at = place l.deep l.point; payload = l.mark }) (point_at (kind l.deep).axes (words l.points) p)) (chain l.left (words l.links) l.p) l.b ≡ seek (λ p. same (record { at = place l.deep l.point; payload = l.mark }) (point_at (kind l.deep).axes (words l.points) p)) (chain l.initial.left (words l.links) l.initial.p) l.initial.b
 
 abbrev pub decreases-loop-left : goal.decreases-loop-left
 decreases-loop-left l = l.left
