@@ -1,4 +1,4 @@
-//! Links the libraries of both trees as `rt staticlib quadtree` and `rt staticlib octree` leave them, or from the folder that
+//! Links the libraries of both trees as `tools/build quadtree octree` leaves them, or from the folder that
 //! RALIKUDO_LIBRARY names.
 
 fn main() {

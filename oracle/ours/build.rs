@@ -1,4 +1,4 @@
-//! Links our static libraries: libprobe.a, libprobe_quad.a and libprobe_oct.a as `rt staticlib` leaves them, or from the folder
+//! Links our static libraries: libprobe.a, libprobe_quad.a and libprobe_oct.a as `tools/build` leaves them, or from the folder
 //! that ORACLE_PROBE names. What is called of a tree stands in a library of its own, as in the host's libraries.
 
 fn main() {

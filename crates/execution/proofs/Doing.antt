@@ -25,18 +25,6 @@ use Rattle.commands.specs.declared.Command.{Command}
 use Rattle.commands.specs.declared.Command.TheVariants as command
 use Rattle.commands.specs.contracts.Command as declared
 
--- ---- a command is not one of another kind
-abbrev without : ℕ → List ℕ → List ℕ
-without k [] = []
-without k (x ∷ xs) = cond (eqb k x) (without k xs) (x ∷ without k xs)
-
--- the numbers of all kinds but one
-abbrev others : ℕ → List ℕ
-others k = without k (0 ∷ 1 ∷ 2 ∷ 3 ∷ 4 ∷ 5 ∷ 6 ∷ 7 ∷ 8 ∷ 9 ∷ [])
-
-pub another : (k : ℕ) (c d : Command) → c ≡ d → T (not (has_key (others k) (Declared.tag_of declared.the_type d))) → OneOf (others k) (Declared.tag_of declared.the_type c) → ⊥
-another k c d e h o = miss (others k) (Declared.tag_of declared.the_type d) h (subst (λ (b : Command). OneOf (others k) (Declared.tag_of declared.the_type b)) e o)
-
 -- ---- room
 pub has : (deep : Bool) (axes at size : ℕ) (r : Bool) → axes ≡ (kind deep).axes → r ≡ leb (at + longest axes) size → r ≡ true → at + longest (kind deep).axes ≤ size
 has deep axes at size r e f g = leb-true _ _ (ap (λ (a : ℕ). leb (at + longest a) size) (sym e) ∙ sym f ∙ g)

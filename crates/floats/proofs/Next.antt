@@ -9,7 +9,7 @@ use lib.IntN.{ℤ}
 use lib.Dec.{T}
 use lib.Arith.{le→nltb}
 use lib.Pow.{pow-add, pow_pos, shr_mono}
-use lib.Ieee.{Float, nan, inf, fin, Format, prec, emax, low, up, size, fits, is_nan, lt, hid, ones, top, of_bits, nan_bits, to_bits}
+use lib.Ieee.{Float, nan, inf, fin, Format, prec, emax, low, size, fits, is_nan, lt, hid, ones, top, of_bits, nan_bits, to_bits}
 use lib.Ieee.Fits.{reach, two, two-le_pos, kept-lt, inf-fits}
 use lib.Ieee.Digits.{size-lt, size-le, size_reaches}
 use lib.Ieee.Bits.{is_true, of_bits-fits, of_bits-to_bits, to_bits-of_bits, nan_bits_is, nan_bits_above}

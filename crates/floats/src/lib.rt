@@ -1,5 +1,6 @@
 // Numbers as bits, and the next number up. The order and rounding laws of binary64 are in proofs/.
 #![tactic(auto)]
+
 ghost use Rattle.std.specs.Prelude.{◌≡◌};
 ghost use Rattle.std.specs.Float.{binary64};
 ghost use Rattle.std.specs.Float.Ieee.{of_bits, to_bits};

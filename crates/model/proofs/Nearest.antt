@@ -15,8 +15,7 @@ use Rattle.floats.proofs.Half.{le_add}
 use Rattle.floats.proofs.Monotone.{Nonneg, nonneg_add, square_nonneg}
 use Rattle.floats.proofs.Order.{le_nums, le_reflexive, le_total, le_transitive, lt_le_trans, lt→le, nle→lt, num?}
 use Rattle.model.specs.Boxes.{Side, added, added_to, axis_distance, axis_sq, far, node_distance, part, square, squared}
-use Rattle.model.specs.Calls.{tree}
-use Rattle.model.specs.Searches.{At, Child, Entry, children, entry, less, near, nearest, offer, offer_each, place, place_each, visit, worst}
+use Rattle.model.specs.Searches.{At, Child, Entry, children, entry, less, nearest, offer, offer_each, place, place_each, visit, worst}
 use Rattle.model.specs.Soundness.{All, Each}
 use Rattle.model.specs.Trees.{Point, Tree, branch, held, leaf, total}
 use Rattle.model.proofs.Counts.{Good, GoodChild, cond_same, flatten_total, part_length}

@@ -10,7 +10,6 @@ use lib.ListN.{length, get_or, set, replicate, length-append}
 use lib.Dec.{T, leb, ltb, T_not, lt→ltb, leb→le}
 use lib.Ieee.Fits.{and_i, eq→eqb}
 use Rattle.model.specs.Boxes.{Side, inside, part, route}
-use Rattle.model.specs.Calls.{ways}
 use Rattle.model.specs.Searches.{keep}
 use Rattle.model.specs.Soundness.{All, Each}
 use Rattle.model.specs.Trees.{Node, Point, Tree, bag, branch, contains, count, delete, every, held, insert, into, into_each, joined, leaf, merge, same, some?, total, undivided, without}

@@ -1,6 +1,7 @@
 // The calls of the gateway's host on an octree, as C functions: numbers, and pieces, coordinates and payloads as bytes. Each tests first that the pieces hold a
 // sound tree and answers 8 where they do not; creation asks for their lengths only. The reply is what is returned.
 #![tactic(auto)]
+
 ghost use Rattle.std.specs.Prelude.{[], ◌∷◌};
 ghost use Rattle.model.specs.Boxes.{side};
 ghost use Rattle.model.specs.Calls.{octree, Create, Insert, Bulk, Delete, Clear, Contains, Len, IsEmpty, Radius, Box, Nearest};

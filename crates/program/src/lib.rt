@@ -7,50 +7,55 @@ ghost use Rattle.tree.specs.Depths.{kind};
 ghost use Rattle.replies.specs.Programs.{Keeps, longest};
 ghost use Rattle.commands.specs.Commands.{says};
 ghost use Rattle.turns.specs.Places.{Ran, Turned, first, does_go_on};
-ghost use Rattle.turns.specs.declared.Next.TheVariants.{Read};
+ghost use Rattle.turns.specs.declared.Next.TheVariants as next_is;
 
+use std::io::{Read, Write};
 use turns::{Next, Place, work};
 
-// A program has no exit status of its own, so what fails is told on standard error.
-fn tell_unread(deep: bool) {
+// Says on standard error that the input could not be read. Where that fails too, nothing is left to tell.
+fn tell_unread<E: Write>(deep: bool, errors: &mut E) {
     if deep {
-        io::write_all(2, b"oct: the input could not be read\n");
+        tell(errors, b"oct: the input could not be read\n");
     } else {
-        io::write_all(2, b"quad: the input could not be read\n");
+        tell(errors, b"quad: the input could not be read\n");
     }
 }
 
-fn tell_unwritten(deep: bool) {
+fn tell_unwritten<E: Write>(deep: bool, errors: &mut E) {
     if deep {
-        io::write_all(2, b"oct: answers could not be written\n");
+        tell(errors, b"oct: answers could not be written\n");
     } else {
-        io::write_all(2, b"quad: answers could not be written\n");
+        tell(errors, b"quad: answers could not be written\n");
     }
+}
+
+fn tell<E: Write>(errors: &mut E, text: &[u8]) {
+    let _told = errors.write_all(text).is_ok();
 }
 
 // Reads, where that comes next, and says how many bytes came: none at the end of the input. There is room for one at least.
-fn fetch(deep: bool, next: Next, text: &mut [u8]) -> usize
-    requires { next ≡ Read → 0 < length text.old }
+fn fetch<I: Read, E: Write>(deep: bool, next: Next, input: &mut I, errors: &mut E, text: &mut [u8]) -> usize
+    requires { next ≡ next_is.Read → 0 < length text.old }
     ensures { result ≤ length text.old }
 {
     match next {
-        Next::Read => {
-            let got = libc::read(0, text);
-            if got < 0 {
-                tell_unread(deep);
+        Next::Read => match input.read(text) {
+            Ok(got) => got,
+            Err(_) => {
+                tell_unread(deep, errors);
+                0
             }
-            io::count(got, text)
-        }
+        },
         Next::Work => 0,
         Next::Done => 0,
     }
 }
 
 // Writes answers, and says whether that could be done.
-fn hand_on(deep: bool, answers: &[u8]) -> bool {
-    let written = io::write_all(1, answers);
+fn hand_on<O: Write, E: Write>(deep: bool, output: &mut O, errors: &mut E, answers: &[u8]) -> bool {
+    let written = output.write_all(answers).is_ok();
     if !written {
-        tell_unwritten(deep);
+        tell_unwritten(deep, errors);
     }
     written
 }
@@ -80,8 +85,11 @@ fn begin() -> Place
 }
 
 // Answers the records of standard input on standard output, from pieces that hold no tree, till the input ends or answers cannot be written. Returns the place that was reached.
-fn take_turns(
+fn take_turns<I: Read, O: Write, E: Write>(
     deep: bool,
+    input: &mut I,
+    output: &mut O,
+    errors: &mut E,
     head: &mut [u8],
     nodes: &mut [u8],
     links: &mut [u8],
@@ -99,22 +107,22 @@ fn take_turns(
     while turns > 0 && going {
         let end = place.end;
         let next = place.next;
-        let got = fetch(deep, next, &mut text[end..]);
+        let got = fetch(deep, next, input, errors, &mut text[end..]);
         place = work(deep, place, got, head, nodes, links, points, text, out);
         let ready = place.ready;
         let after = place.next;
-        going = hand_on(deep, &out[0..ready]) & goes_on(after);
+        going = hand_on(deep, output, errors, &out[0..ready]) & goes_on(after);
         turns -= 1;
     }
     place
 }
 
 // The command program of either tree, over arrays of its own. Returns the place that was reached.
-pub fn run(deep: bool) -> Place
+pub fn run<I: Read, O: Write, E: Write>(deep: bool, input: &mut I, output: &mut O, errors: &mut E) -> Place
     ensures { Ran (kind deep) (says deep) result }
 {
-    let mut text = io::large_buffer();
-    let mut out = io::large_buffer();
+    let mut text: [u8; 65536] = [0; 65536];
+    let mut out: [u8; 65536] = [0; 65536];
     let mut links: [u8; 2052] = [0; 2052];
     if deep {
         let mut head: [u8; 56] = [0; 56];
@@ -122,6 +130,9 @@ pub fn run(deep: bool) -> Place
         let mut points: [u8; 16416] = [0; 16416];
         take_turns(
             true,
+            input,
+            output,
+            errors,
             &mut head,
             &mut nodes,
             &mut links,
@@ -135,6 +146,9 @@ pub fn run(deep: bool) -> Place
         let mut points: [u8; 12312] = [0; 12312];
         take_turns(
             false,
+            input,
+            output,
+            errors,
             &mut head,
             &mut nodes,
             &mut links,

@@ -1,5 +1,5 @@
 // The quadtree's command program.
 #![tactic(auto)]
-fn main() {
-    program::run(false);
+fn main(rt: HostRuntime) {
+    program::run(false, &mut rt.stdin(), &mut rt.stdout(), &mut rt.stderr());
 }

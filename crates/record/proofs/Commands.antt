@@ -13,7 +13,6 @@ use Rattle.record.specs.Text.{has}
 use Rattle.record.specs.Commands.{Numbers, call_of, floats_after, numbers_of, understood, whole_after, word_of}
 use Rattle.record.specs.Read.{Reads, rest}
 use Rattle.record.specs.declared.Word.{Word}
-use Rattle.record.specs.declared.Word.TheVariants as Word
 use Rattle.record.specs.declared.numbers.Whole.{Whole}
 use Rattle.record.specs.declared.numbers.Whole.TheVariants as whole
 use Rattle.record.proofs.Parts.{rest_is}

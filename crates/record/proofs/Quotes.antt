@@ -15,7 +15,6 @@ use Rattle.record.specs.Numbers.{digit, number_of, whole_of}
 use Rattle.record.specs.Commands.{Numbers, word_of, floats_after, whole_after, numbers_of, call_of, fields_call, understood, word_insert, word_delete, word_contains, word_range, word_knn, word_box, word_len, word_clear}
 use Rattle.record.specs.Read.{rest}
 use Rattle.record.specs.declared.Word.{Word}
-use Rattle.record.specs.declared.Word.TheVariants as Word
 use Rattle.record.proofs.Digits.{number_bad, whole_bad}
 use Rattle.record.proofs.Parts.{is_no, same_eq, split_rest}
 use Rattle.record.proofs.Words.{no_word}

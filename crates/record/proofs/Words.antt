@@ -6,7 +6,6 @@ use mathlib.Core.List.{List}
 use Rattle.record.specs.Text.{same}
 use Rattle.record.specs.Commands.{word_of, word_insert, word_delete, word_contains, word_range, word_knn, word_box, word_len, word_clear}
 use Rattle.record.specs.declared.Word.{Word}
-use Rattle.record.specs.declared.Word.TheVariants as Word
 use Rattle.record.proofs.Parts.{same_refl}
 
 -- none of the words that both programs have

@@ -8,7 +8,6 @@ use Rattle.model.specs.Calls.{Call, Create, Insert, Delete, Clear, Ask, Contains
 use Rattle.record.specs.Text.{split, same, has}
 use Rattle.record.specs.Numbers.{number_of, whole_of}
 use Rattle.record.specs.declared.Word.{Word}
-use Rattle.record.specs.declared.Word.TheVariants as Word
 
 -- ---- words
 -- "by exact lower-case word", as bytes

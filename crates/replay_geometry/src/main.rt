@@ -3,7 +3,7 @@
 #![tactic(auto)]
 ghost use Rattle.std.specs.Prelude.{◌+◌, ◌≤◌, ◌<◌, true, ◌≡◌, length, set};
 
-use libc::{STDIN_FILENO, STDOUT_FILENO};
+use std::io::{Read, Write};
 
 // How much of a line is read, whether it is too long for any question, and whether there is more input.
 #[derive(Clone, Copy)]
@@ -13,10 +13,11 @@ struct Line {
     more: bool,
 }
 
-fn reply(line: &[u8]) {
+// An answer that cannot be written is lost, and the next line is read.
+fn reply<O: Write>(output: &mut O, line: &[u8]) {
     let mut out = [0u8; 128];
     let n = geometry_answers::show(geometry_questions::ask(line), &mut out);
-    io::write_all(STDOUT_FILENO, &out[0..n]);
+    let _written = output.write_all(&out[0..n]).is_ok();
 }
 
 // A byte joins the line where there is room, and otherwise the line is too long.
@@ -40,13 +41,21 @@ fn join(line: &mut [u8], len: usize, long: bool, b: u8) -> Line
     }
 }
 
+// Reads one byte, where there is one more that can be read.
+fn read_one<I: Read>(input: &mut I, byte: &mut [u8; 1]) -> bool {
+    match input.read(byte) {
+        Ok(got) => got == 1,
+        Err(_) => false,
+    }
+}
+
 // One byte of input: it ends a line, which is answered, or joins it.
-fn step(line: &mut [u8], len: usize, long: bool) -> Line
+fn step<I: Read, O: Write>(input: &mut I, output: &mut O, line: &mut [u8], len: usize, long: bool) -> Line
     requires { len ≤ length line.old }
     ensures { result.len ≤ length line.new }
 {
     let mut byte = [0u8; 1];
-    if libc::read(STDIN_FILENO, &mut byte) != 1 {
+    if !read_one(input, &mut byte) {
         return Line {
             len,
             long,
@@ -56,9 +65,9 @@ fn step(line: &mut [u8], len: usize, long: bool) -> Line
     let b = byte[0];
     if b == b'\n' {
         if long {
-            reply(b"");
+            reply(output, b"");
         } else {
-            reply(&line[0..len]);
+            reply(output, &line[0..len]);
         }
         return Line {
             len: 0,
@@ -70,14 +79,16 @@ fn step(line: &mut [u8], len: usize, long: bool) -> Line
 }
 
 // The longest question is `meets3` with its twelve numbers: 210 bytes.
-fn main() {
+fn main(rt: HostRuntime) {
+    let mut input = rt.stdin();
+    let mut output = rt.stdout();
     let mut line = [0u8; 256];
     let mut len: usize = 0;
     let mut long = false;
     let mut more = true;
     let mut turns = u64::MAX;
     while turns > 0 && more {
-        let next = step(&mut line, len, long);
+        let next = step(&mut input, &mut output, &mut line, len, long);
         len = next.len;
         long = next.long;
         more = next.more;

@@ -20,7 +20,6 @@ use Rattle.record.specs.Commands.{Numbers, call_of, fields_call, floats_after, n
 use Rattle.record.specs.Input.{begun, ended, parts, records, strip, unended}
 use Rattle.record.specs.Text.{has, split}
 use Rattle.record.specs.declared.Word.{Word}
-use Rattle.record.specs.declared.Word.TheVariants as Word
 use Rattle.record.proofs.Reading.{Right, numbers_right}
 use Rattle.replies.specs.Lines.{answer, heard, held?, makes, state}
 

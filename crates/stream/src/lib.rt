@@ -1,5 +1,6 @@
 // The input, line by line.
 #![tactic(auto)]
+
 ghost use Rattle.std.specs.Prelude.{true, false, ◌≡◌, ◌+◌, ◌≤◌, ◌<◌, length, drop};
 ghost use Rattle.model.specs.Calls.{State};
 ghost use Rattle.trees.specs.Pieces.{pieces};

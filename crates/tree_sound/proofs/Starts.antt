@@ -1,8 +1,8 @@
 -- The start and the end of the walk, for either kind of tree.
-use mathlib.Core.Path.{◌≡◌, refl, subst, subst₂}
+use mathlib.Core.Path.{◌≡◌, subst, subst₂}
 use mathlib.Core.Bool.{Bool, true, false}
 use mathlib.Core.List.{List}
-use Prim.Native.Nat.{ℕ, suc, ◌<◌, ◌≤◌}
+use Prim.Native.Nat.{ℕ, ◌<◌, ◌≤◌}
 use native.Mathlib.Omega.{arith}
 use lib.Ieee.{Float, nan}
 use Rattle.model.specs.Boxes.{Side, far}
@@ -12,7 +12,7 @@ use Rattle.geometry.specs.declared.space.Cube.{Cube}
 use Rattle.trees.proofs.Areas.{Bound, bounding, whole, whole_is}
 use Rattle.trees.proofs.Checks.{Checks}
 use Rattle.trees.proofs.Marks.{Rest}
-use Rattle.tree.specs.Depths.{groups, kind, coords, sides}
+use Rattle.tree.specs.Depths.{kind, coords, sides}
 
 -- the bounds that the root starts with
 pub whole_of : (deep : Bool) (b : Cube) (t : Float) → t ≡ nan → bounding (coords deep b.x b.y b.z) (coords deep t t t) (coords deep (far (record { corner = b.x; extent = b.width })) (far (record { corner = b.y; extent = b.height })) (far (record { corner = b.z; extent = b.depth }))) ≡ whole (sides deep b)

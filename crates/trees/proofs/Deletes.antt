@@ -17,7 +17,7 @@ use Rattle.model.proofs.Lists.{each_get, from}
 use Rattle.model.proofs.Short.{delete_s, merge_s, without_s}
 use Rattle.pool.specs.Lists.{is, occ, sum_of, last_or}
 use Rattle.pool.specs.Meanings.{Cuts, Merges, Once, up_from}
-use Rattle.pool.specs.Trees.{Node, leaf, branch, PTree, flat, flats, none, erase, groups_at, places_at, size, joined_in}
+use Rattle.pool.specs.Trees.{leaf, branch, PTree, flat, flats, none, erase, groups_at, places_at, size, joined_in}
 use Rattle.pool.specs.Worlds.{World, Frame}
 use Rattle.pool.specs.Writes.{Pool, both, kid, lowered}
 use Rattle.pool.proofs.Down.{back, down_counted}

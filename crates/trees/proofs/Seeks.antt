@@ -2,7 +2,7 @@
 use mathlib.Core.Path.{◌≡◌, refl, ap, ap₂, sym, ◌∙◌, subst}
 use mathlib.Core.Bool.{Bool, true, false, not, ◌&&◌}
 use mathlib.Core.List.{List, [], ◌∷◌, map}
-use Prim.Native.Nat.{ℕ, zero, suc, ◌-◌}
+use Prim.Native.Nat.{ℕ, zero, suc}
 use native.Mathlib.Omega.{arith}
 use lib.Dec.{T, ltb}
 use lib.ListN.{length, get_or, length-map, get_or-map, get_or-eq_default}
@@ -11,7 +11,7 @@ use Rattle.model.specs.Boxes.{Side, node_distance, part, squared}
 use Rattle.model.specs.Searches.{At, Child, Entry, children, entry, offer_each, place_each, worst}
 use Rattle.model.specs.Trees.{Point, Tree}
 use Rattle.model.proofs.Nearest.{over, seek, skips}
-use Rattle.knn.specs.Candidates.{at, numbered}
+use Rattle.knn.specs.Candidates.{numbered}
 use Rattle.knn.proofs.Children.{child, children_order, far, offer_each_renamed, renamed, worst_renamed}
 use Rattle.pool.specs.Trees.{leaf, branch, PTree, none, erase}
 use Rattle.pool.proofs.Lists.{by_lt}

@@ -10,7 +10,7 @@ use lib.Dec.{T, eqb}
 use borrow.Author.Tests.{not-true, not-false, eq-eqb, eqb-true}
 use lib.ListN.{length, get_or, length-map, replicate, length-replicate}
 use lib.Ieee.Bits.{is_true}
-use Rattle.model.specs.Boxes.{Side, part, route, inside, acceptable}
+use Rattle.model.specs.Boxes.{Side, part, route, acceptable}
 use Rattle.model.specs.Trees.{Point, held}
 use Rattle.model.specs.Calls.{Kind, ways, Plan}
 use Rattle.model.specs.Soundness.{All, Each, Sound, AllOrNone, Routed, LeavesFit, BranchesFull}

@@ -1,5 +1,6 @@
 // One turn of a program: it answers what is there, and says what comes next. It reads and writes no file.
 #![tactic(auto)]
+
 ghost use Rattle.std.specs.Prelude.{not, true, ◌≡◌, ◌+◌, ◌≤◌, length};
 ghost use Rattle.model.specs.Calls.{State};
 ghost use Rattle.trees.specs.Pieces.{pieces};

@@ -1,5 +1,6 @@
 // Numbers in lent bytes, low byte first. A place outside the slice reads as 0 and is not written, so every function is total.
 #![tactic(auto)]
+
 ghost use Rattle.std.specs.Prelude.{◌≡◌, ◌+◌, ◌*◌, ◌/◌, ◌%◌, ◌<◌, length, get_or, set};
 ghost use Rattle.std.specs.Float.{binary64};
 ghost use Rattle.std.specs.Float.Ieee.{of_bits, to_bits};

@@ -1,7 +1,6 @@
 -- `answers::answer`: the goals that the search leaves. Assumes nothing.
 use Rattle.words.specs.Words.{words}
 use Rattle.answers.proofs.Writes.{answer_refused, answer_given}
-use borrow.Author.Rules.{rules}
 use Rattle.answers.proofs.answer.Goals as goal
 
 pub returns-then-m-most : goal.returns-then-m-most

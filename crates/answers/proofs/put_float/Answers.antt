@@ -1,6 +1,5 @@
 -- `answers::put_float`: the goals that the search leaves. Assumes nothing.
 use Rattle.answers.proofs.Writes.{eight}
-use borrow.Author.Rules.{rules}
 use Rattle.answers.proofs.put_float.Goals as goal
 
 pub returns : goal.returns

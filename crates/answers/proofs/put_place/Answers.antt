@@ -1,9 +1,6 @@
 -- `answers::put_place`: the goals that the search leaves. Assumes nothing.
 use mathlib.Core.Path.{refl}
-use Prim.Native.Nat.{◌-◌}
-use Rattle.words.specs.Words.{words}
-use Rattle.answers.proofs.Writes.{Placing, placing_start, placing_step, placing_end}
-use borrow.Author.Rules.{rules}
+use Rattle.answers.proofs.Writes.{placing_start, placing_step, placing_end}
 use Rattle.answers.proofs.put_place.Goals as goal
 
 pub loop-a-init : goal.loop-a-init

@@ -1,9 +1,7 @@
 -- `answers::put_place`: what its loops keep, and what grows less. Assumes nothing.
-use mathlib.Core.Path.{refl}
 use Prim.Native.Nat.{◌-◌}
 use Rattle.words.specs.Words.{words}
-use Rattle.answers.proofs.Writes.{Placing, placing_start, placing_step, placing_end}
-use borrow.Author.Rules.{rules}
+use Rattle.answers.proofs.Writes.{Placing}
 use Rattle.answers.proofs.put_place.Given as goal
 
 abbrev pub invariant-loop-a : goal.invariant-loop-a

@@ -1,6 +1,5 @@
 -- `answers::room`: the goals that the search leaves. Assumes nothing.
 use Rattle.answers.proofs.Writes.{room_none}
-use borrow.Author.Rules.{rules}
 use Rattle.answers.proofs.room.Goals as goal
 
 pub returns-then-axes-eq0 : goal.returns-then-axes-eq0

@@ -2,7 +2,6 @@
 use lib.ListN.{length-set}
 use native.Mathlib.Omega.{arith}
 use Rattle.answers.proofs.Writes.{four}
-use borrow.Author.Rules.{rules}
 use Rattle.answers.proofs.store.Goals as goal
 
 pub bounds-t-k-2 : goal.bounds-t-k-2

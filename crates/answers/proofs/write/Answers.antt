@@ -1,10 +1,7 @@
 -- `answers::write`: the goals that the search leaves. Assumes nothing.
 use mathlib.Core.Path.{refl}
 use native.Mathlib.Omega.{arith}
-use Prim.Native.Nat.{◌-◌}
-use Rattle.words.specs.Words.{words}
-use Rattle.answers.proofs.Writes.{Answering, answering_start, answering_step, answering_places, answering_marks, fits_mark, fits_place}
-use borrow.Author.Rules.{rules}
+use Rattle.answers.proofs.Writes.{answering_start, answering_step, answering_places, answering_marks, fits_mark, fits_place}
 use Rattle.answers.proofs.write.Goals as goal
 
 pub loop-j-init : goal.loop-j-init

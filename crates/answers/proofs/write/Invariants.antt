@@ -1,10 +1,7 @@
 -- `answers::write`: what its loops keep, and what grows less. Assumes nothing.
-use mathlib.Core.Path.{refl}
-use native.Mathlib.Omega.{arith}
 use Prim.Native.Nat.{◌-◌}
 use Rattle.words.specs.Words.{words}
-use Rattle.answers.proofs.Writes.{Answering, answering_start, answering_step, answering_places, answering_marks, fits_mark, fits_place}
-use borrow.Author.Rules.{rules}
+use Rattle.answers.proofs.Writes.{Answering}
 use Rattle.answers.proofs.write.Given as goal
 
 abbrev pub invariant-loop-j : goal.invariant-loop-j

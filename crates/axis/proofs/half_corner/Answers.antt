@@ -3,7 +3,6 @@ use mathlib.Core.Path.{◌≡◌, sym, ◌∙◌, ap}
 use mathlib.Core.Bool.{Bool, true, false}
 use lib.Ieee.{Float}
 use Rattle.model.specs.Boxes.{Side, mid, half}
-use borrow.Author.Rules.{rules}
 use Rattle.axis.proofs.half_corner.Goals as goal
 
 high_corner : (t : Bool) (s : Side) (m : Float) → t ≡ true → m ≡ mid s → m ≡ (half t s).corner

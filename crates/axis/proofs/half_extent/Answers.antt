@@ -4,7 +4,6 @@ use mathlib.Core.Bool.{Bool, true, false}
 use lib.Ieee.{Float, binary64}
 use Rattle.floats.specs.Span.{span}
 use Rattle.model.specs.Boxes.{Side, far, mid, half}
-use borrow.Author.Rules.{rules}
 use Rattle.axis.proofs.half_extent.Goals as goal
 
 high_extent : (t : Bool) (s : Side) (m e : Float) → t ≡ true → m ≡ mid s → e ≡ span binary64 m (far s) → e ≡ (half t s).extent

@@ -4,7 +4,6 @@ use mathlib.Core.Bool.{Bool, true, false, not}
 use Prim.Native.Nat.{ℕ, suc, ◌-◌, ◌≤◌}
 use native.Mathlib.Omega.{arith}
 use lib.Ieee.{Float, binary64}
-use borrow.Author.Rules.{rules}
 use Rattle.floats.specs.Next.{next_up}
 use Rattle.floats.specs.Span.{short, lengthened}
 use Rattle.floats.proofs.Span.{lengthened_more, lengthened_stop, lengthened_none}

@@ -1,13 +1,7 @@
 -- `axis::lengthen`: what its loops keep, and what grows less. Assumes nothing.
-use mathlib.Core.Path.{◌≡◌, refl, sym, ap, ◌∙◌}
-use mathlib.Core.Bool.{Bool, true, false, not}
-use Prim.Native.Nat.{ℕ, suc, ◌-◌, ◌≤◌}
-use native.Mathlib.Omega.{arith}
-use lib.Ieee.{Float, binary64}
-use borrow.Author.Rules.{rules}
-use Rattle.floats.specs.Next.{next_up}
-use Rattle.floats.specs.Span.{short, lengthened}
-use Rattle.floats.proofs.Span.{lengthened_more, lengthened_stop, lengthened_none}
+use mathlib.Core.Path.{◌≡◌}
+use lib.Ieee.{binary64}
+use Rattle.floats.specs.Span.{lengthened}
 use Rattle.axis.proofs.lengthen.Given as goal
 
 abbrev pub invariant-loop-left : goal.invariant-loop-left

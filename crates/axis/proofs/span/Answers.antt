@@ -2,7 +2,6 @@
 use mathlib.Core.Path.{◌≡◌, refl, sym, ◌∙◌}
 use mathlib.Core.Bool.{Bool, true, false, not}
 use lib.Ieee.{binary64}
-use borrow.Author.Rules.{rules}
 use Rattle.floats.proofs.Span.{lengthened_stop, reaches_enough, span_is}
 use Rattle.axis.proofs.span.Goals as goal
 

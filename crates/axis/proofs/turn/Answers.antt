@@ -4,7 +4,6 @@ use mathlib.Core.Bool.{Bool, true, false, cond}
 use native.Mathlib.Omega.{arith}
 use lib.Ieee.{Float, le}
 use Rattle.model.specs.Boxes.{Side, mid, turn}
-use borrow.Author.Rules.{rules}
 use Rattle.axis.proofs.turn.Goals as goal
 
 turned : (t : Bool) (s : Side) (m v : Float) → m ≡ mid s → le m v ≡ t → cond t 1 0 ≡ turn s v

@@ -1,6 +1,5 @@
 -- `clearing::clear`: the goals that the search leaves. Assumes nothing.
 use Rattle.groups.proofs.Walks.{empties}
-use borrow.Author.Rules.{rules}
 use Rattle.clearing.proofs.clear.Goals as goal
 
 pub returns : goal.returns

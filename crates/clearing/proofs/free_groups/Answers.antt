@@ -1,12 +1,7 @@
 -- `clearing::free_groups`: the goals that the search leaves. Assumes nothing.
 use Rattle.groups.proofs.Walks.{given_end, given_go, groups_freed}
-use Rattle.pool.specs.Writes.{given_down}
-use Rattle.words.specs.Words.{words}
-use lib.ListN.{length}
-use Prim.Native.Nat.{◌<◌, ◌-◌}
-use mathlib.Core.Path.{◌≡◌, refl, ◌∙◌}
+use mathlib.Core.Path.{refl, ◌∙◌}
 use native.Mathlib.Omega.{arith}
-use borrow.Author.Rules.{rules}
 use Rattle.clearing.proofs.free_groups.Goals as goal
 
 pub loop-k-init : goal.loop-k-init

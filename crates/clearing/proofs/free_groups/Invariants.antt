@@ -1,12 +1,9 @@
 -- `clearing::free_groups`: what its loops keep, and what grows less. Assumes nothing.
-use Rattle.groups.proofs.Walks.{given_end, given_go, groups_freed}
 use Rattle.pool.specs.Writes.{given_down}
 use Rattle.words.specs.Words.{words}
 use lib.ListN.{length}
 use Prim.Native.Nat.{◌<◌, ◌-◌}
-use mathlib.Core.Path.{◌≡◌, refl, ◌∙◌}
-use native.Mathlib.Omega.{arith}
-use borrow.Author.Rules.{rules}
+use mathlib.Core.Path.{◌≡◌}
 use Rattle.clearing.proofs.free_groups.Given as goal
 
 abbrev pub invariant-loop-k : goal.invariant-loop-k

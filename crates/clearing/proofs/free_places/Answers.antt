@@ -1,12 +1,7 @@
 -- `clearing::free_places`: the goals that the search leaves. Assumes nothing.
 use Rattle.groups.proofs.Walks.{pushed_end, pushed_go, places_freed}
-use Rattle.pool.specs.Writes.{pushed_down}
-use Rattle.words.specs.Words.{words}
-use lib.ListN.{length}
-use Prim.Native.Nat.{◌<◌, ◌-◌}
-use mathlib.Core.Path.{◌≡◌, refl, ◌∙◌}
+use mathlib.Core.Path.{refl, ◌∙◌}
 use native.Mathlib.Omega.{arith}
-use borrow.Author.Rules.{rules}
 use Rattle.clearing.proofs.free_places.Goals as goal
 
 pub loop-p-init : goal.loop-p-init

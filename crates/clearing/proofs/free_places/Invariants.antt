@@ -1,12 +1,9 @@
 -- `clearing::free_places`: what its loops keep, and what grows less. Assumes nothing.
-use Rattle.groups.proofs.Walks.{pushed_end, pushed_go, places_freed}
 use Rattle.pool.specs.Writes.{pushed_down}
 use Rattle.words.specs.Words.{words}
 use lib.ListN.{length}
 use Prim.Native.Nat.{◌<◌, ◌-◌}
-use mathlib.Core.Path.{◌≡◌, refl, ◌∙◌}
-use native.Mathlib.Omega.{arith}
-use borrow.Author.Rules.{rules}
+use mathlib.Core.Path.{◌≡◌}
 use Rattle.clearing.proofs.free_places.Given as goal
 
 abbrev pub invariant-loop-p : goal.invariant-loop-p

@@ -1,6 +1,5 @@
 -- `clearing::rows`: the goals that the search leaves. Assumes nothing.
 use Rattle.groups.proofs.Walks.{rows_none}
-use borrow.Author.Rules.{rules}
 use Rattle.clearing.proofs.rows.Goals as goal
 
 pub returns-then-ways-eq0 : goal.returns-then-ways-eq0

@@ -1,8 +1,5 @@
 -- `fields::find`: the goals that the search leaves. Assumes nothing.
-use Prim.Native.Nat.{ℕ, ◌≤◌, ◌<◌, ◌-◌}
-use mathlib.Core.Path.{◌≡◌}
 use borrow.Author.Count.{below_more}
-use lib.ListN.{length, get_or}
 use borrow.Author.Rules.{rules}
 use Rattle.fields.proofs.find.Goals as goal
 

@@ -1,6 +1,5 @@
 -- `fields::floats_after`: the goals that the search leaves. Assumes nothing.
 use mathlib.Core.Path.{sym, ap}
-use borrow.Author.Rules.{rules}
 use Rattle.record.specs.Commands.{floats_after}
 use Rattle.fields.proofs.floats_after.Goals as goal
 

@@ -1,5 +1,4 @@
 -- `fields::last_whole`: the goals that the search leaves. Assumes nothing.
-use borrow.Author.Rules.{rules}
 use Rattle.record.proofs.Reading.{last_missing, last_is, last_more, last_end}
 use Rattle.fields.proofs.last_whole.Goals as goal
 

@@ -1,7 +1,5 @@
 -- `fields::numbers_of`: the goals that the search leaves. Assumes nothing.
-use Prim.Native.Nat.{◌-◌}
-use borrow.Author.Rules.{rules}
-use Rattle.record.proofs.Reading.{Filling, counted, filling_bad, filling_end, filling_start, filling_step, filling_stop, reads_short}
+use Rattle.record.proofs.Reading.{counted, filling_bad, filling_end, filling_start, filling_step, filling_stop, reads_short}
 use Rattle.fields.proofs.numbers_of.Goals as goal
 
 pub returns-then-count-numbers : goal.returns-then-count-numbers

@@ -1,7 +1,6 @@
 -- `fields::numbers_of`: what its loops keep, and what grows less. Assumes nothing.
 use Prim.Native.Nat.{◌-◌}
-use borrow.Author.Rules.{rules}
-use Rattle.record.proofs.Reading.{Filling, counted, filling_bad, filling_end, filling_start, filling_step, filling_stop, reads_short}
+use Rattle.record.proofs.Reading.{Filling}
 use Rattle.fields.proofs.numbers_of.Given as goal
 
 abbrev pub invariant-loop-i : goal.invariant-loop-i

@@ -1,6 +1,5 @@
 -- `fields::whole_after`: the goals that the search leaves. Assumes nothing.
 use mathlib.Core.Path.{sym, ap}
-use borrow.Author.Rules.{rules}
 use Rattle.record.specs.Commands.{whole_after}
 use Rattle.fields.proofs.whole_after.Goals as goal
 

@@ -1,6 +1,5 @@
 -- `fields::word_of`: the goals that the search leaves. Assumes nothing.
 use mathlib.Core.Path.{sym, ap}
-use borrow.Author.Rules.{rules}
 use Rattle.record.specs.Text.{same}
 use Rattle.record.specs.Commands.{word_of}
 use Rattle.record.proofs.Parts.{same_no}

@@ -1,5 +1,4 @@
 -- `floats::from_bits`: the goals that the search leaves. Assumes nothing.
-use borrow.Author.Rules.{rules}
 use Rattle.floats.proofs.Patterns.{nan_above, no_nan_below}
 use Rattle.floats.proofs.from_bits.Goals as goal
 

@@ -4,7 +4,6 @@ use mathlib.Core.Bool.{true, false}
 use Prim.Native.Nat.{ℕ, ◌+◌, ◌-◌, ◌%◌, ◌≤◌}
 use lib.Dec.{T}
 use lib.Ieee.{Float, binary64, lt, fits, of_bits, to_bits}
-use borrow.Author.Rules.{rules}
 use Rattle.floats.specs.Next.{next_up}
 use Rattle.floats.proofs.Next.{next_below, next_above, next_last, below_zero, below_some}
 use Rattle.floats.proofs.Patterns.{zero_bits, inf_bits, inf_no_nan}

@@ -1,5 +1,4 @@
 -- `floats::to_bits`: the goals that the search leaves. Assumes nothing.
-use borrow.Author.Rules.{rules}
 use Rattle.floats.proofs.Patterns.{nan_written, same_no_nan}
 use Rattle.floats.proofs.to_bits.Goals as goal
 

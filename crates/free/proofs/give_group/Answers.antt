@@ -1,6 +1,5 @@
 -- `free::give_group`: the goals that the search leaves. Assumes nothing.
 use Rattle.pool.proofs.Steps.{gives_group}
-use borrow.Author.Rules.{rules}
 use Rattle.free.proofs.give_group.Goals as goal
 
 pub returns : goal.returns

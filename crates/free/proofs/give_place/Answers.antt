@@ -1,6 +1,5 @@
 -- `free::give_place`: the goals that the search leaves. Assumes nothing.
 use Rattle.pool.proofs.Steps.{gives_place}
-use borrow.Author.Rules.{rules}
 use Rattle.free.proofs.give_place.Goals as goal
 
 pub returns : goal.returns

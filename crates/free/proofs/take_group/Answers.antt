@@ -1,6 +1,5 @@
 -- `free::take_group`: the goals that the search leaves. Assumes nothing.
 use Rattle.pool.proofs.Steps.{takes_group}
-use borrow.Author.Rules.{rules}
 use Rattle.free.proofs.take_group.Goals as goal
 
 pub returns : goal.returns

@@ -1,6 +1,5 @@
 -- `free::take_place`: the goals that the search leaves. Assumes nothing.
 use Rattle.pool.proofs.Steps.{takes_place}
-use borrow.Author.Rules.{rules}
 use Rattle.free.proofs.take_place.Goals as goal
 
 pub returns : goal.returns

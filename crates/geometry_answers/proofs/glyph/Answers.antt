@@ -1,5 +1,4 @@
 -- `geometry_answers::glyph`: the goals that the search leaves. Assumes nothing.
-use borrow.Author.Rules.{rules}
 use Rattle.geometry_answers.proofs.Texts.{glyph_low, glyph_high}
 use Rattle.geometry_answers.proofs.glyph.Goals as goal
 

@@ -1,9 +1,5 @@
 -- `geometry_answers::put`: the goals that the search leaves. Assumes nothing.
-use Prim.Native.Nat.{◌≤◌}
-use mathlib.Core.Path.{◌≡◌, refl, sym, ◌∙◌}
-use lib.ListN.{length}
-use lib.Seq.{sets}
-use Rattle.record.specs.Numbers.{spelt}
+use mathlib.Core.Path.{refl, sym, ◌∙◌}
 use Rattle.record.proofs.Spelling.{spelt_turn, spelt_done}
 use Rattle.geometry_answers.proofs.Texts.{number_put}
 use borrow.Author.Rules.{rules}

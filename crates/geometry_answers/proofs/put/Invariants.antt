@@ -1,12 +1,9 @@
 -- `geometry_answers::put`: what its loops keep, and what grows less. Assumes nothing.
 use Prim.Native.Nat.{◌≤◌}
-use mathlib.Core.Path.{◌≡◌, refl, sym, ◌∙◌}
+use mathlib.Core.Path.{◌≡◌}
 use lib.ListN.{length}
 use lib.Seq.{sets}
 use Rattle.record.specs.Numbers.{spelt}
-use Rattle.record.proofs.Spelling.{spelt_turn, spelt_done}
-use Rattle.geometry_answers.proofs.Texts.{number_put}
-use borrow.Author.Rules.{rules}
 use Rattle.geometry_answers.proofs.put.Given as goal
 
 abbrev pub invariant-loop-k : goal.invariant-loop-k

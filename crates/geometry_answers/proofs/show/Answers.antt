@@ -3,7 +3,6 @@ use mathlib.Core.Path.{sym, ◌∙◌}
 use native.Mathlib.Omega.{arith}
 use Rattle.geometry_answers.specs.Shown.{said_in, shown}
 use Rattle.geometry_answers.proofs.Texts.{byte_small, line_none_written, line_written, number_length, number_line, octant_length, quadrant_length, yes_line}
-use borrow.Author.Rules.{rules}
 use Rattle.geometry_answers.proofs.show.Goals as goal
 
 pub returns-then-out-lt128 : goal.returns-then-out-lt128

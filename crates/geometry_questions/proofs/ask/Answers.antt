@@ -5,7 +5,6 @@ use native.Mathlib.Omega.{arith}
 use Rattle.record.specs.Commands.{floats_after, whole_after}
 use Rattle.geometry_answers.specs.Shown.{said_in}
 use Rattle.geometry_questions.proofs.Lines.{ask_none, ask_not, ask_value}
-use borrow.Author.Rules.{rules}
 use Rattle.geometry_questions.proofs.ask.Goals as goal
 
 pub returns-then-n-lt1 : goal.returns-then-n-lt1

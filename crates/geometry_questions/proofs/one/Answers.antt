@@ -5,7 +5,6 @@ use Rattle.record.specs.Text.{same}
 use Rattle.geometry_answers.specs.Shown.{said_in, number}
 use Rattle.geometry_questions.specs.Asked.{questions}
 use Rattle.geometry_questions.proofs.Tests.{met, past}
-use borrow.Author.Rules.{rules}
 use Rattle.geometry_questions.proofs.one.Goals as goal
 
 pub returns-then-n-same : goal.returns-then-n-same

@@ -7,7 +7,6 @@ use Rattle.record.specs.Text.{same}
 use Rattle.geometry_answers.specs.Shown.{said_in, number, yes}
 use Rattle.geometry_questions.specs.Asked.{questions}
 use Rattle.geometry_questions.proofs.Tests.{met, past}
-use borrow.Author.Rules.{rules}
 use Rattle.geometry_questions.proofs.pair2.Goals as goal
 
 pub returns-then-n-same : goal.returns-then-n-same

@@ -4,7 +4,6 @@ use Rattle.record.specs.Text.{same}
 use Rattle.geometry_answers.specs.Shown.{said_in, boxed}
 use Rattle.geometry_questions.specs.Asked.{parts}
 use Rattle.geometry_questions.proofs.Tests.{met, no_more, past}
-use borrow.Author.Rules.{rules}
 use Rattle.geometry_questions.proofs.parts.Goals as goal
 
 pub returns-then-n-same : goal.returns-then-n-same

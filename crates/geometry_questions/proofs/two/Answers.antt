@@ -8,7 +8,6 @@ use Rattle.record.specs.Text.{same}
 use Rattle.geometry_answers.specs.Shown.{said_in, child, number, yes}
 use Rattle.geometry_questions.specs.Asked.{questions}
 use Rattle.geometry_questions.proofs.Tests.{met, past}
-use borrow.Author.Rules.{rules}
 use Rattle.geometry_questions.proofs.two.Goals as goal
 
 pub returns-then-n-same : goal.returns-then-n-same

@@ -1,6 +1,5 @@
 -- `groups::clear_node`: the goals that the search leaves. Assumes nothing.
 use Rattle.groups.proofs.Walks.{clears}
-use borrow.Author.Rules.{rules}
 use Rattle.groups.proofs.clear_node.Goals as goal
 
 pub returns : goal.returns

@@ -1,12 +1,7 @@
 -- `groups::clear_nodes`: the goals that the search leaves. Assumes nothing.
 use Rattle.groups.proofs.Walks.{cleared_end, cleared_go}
-use Rattle.pool.specs.Writes.{cleared_from}
-use Rattle.words.specs.Words.{words}
-use lib.ListN.{length}
-use Prim.Native.Nat.{◌≤◌, ◌+◌}
-use mathlib.Core.Path.{◌≡◌, ◌∙◌}
+use mathlib.Core.Path.{◌∙◌}
 use native.Mathlib.Omega.{arith}
-use borrow.Author.Rules.{rules}
 use Rattle.groups.proofs.clear_nodes.Goals as goal
 
 pub loop-left-preserved : goal.loop-left-preserved

@@ -1,12 +1,9 @@
 -- `groups::clear_nodes`: what its loops keep, and what grows less. Assumes nothing.
-use Rattle.groups.proofs.Walks.{cleared_end, cleared_go}
 use Rattle.pool.specs.Writes.{cleared_from}
 use Rattle.words.specs.Words.{words}
 use lib.ListN.{length}
 use Prim.Native.Nat.{◌≤◌, ◌+◌}
-use mathlib.Core.Path.{◌≡◌, ◌∙◌}
-use native.Mathlib.Omega.{arith}
-use borrow.Author.Rules.{rules}
+use mathlib.Core.Path.{◌≡◌}
 use Rattle.groups.proofs.clear_nodes.Given as goal
 
 abbrev pub invariant-loop-left : goal.invariant-loop-left

@@ -1,12 +1,7 @@
 -- `groups::deal`: the goals that the search leaves. Assumes nothing.
 use Rattle.groups.proofs.Walks.{deal_start, deal_end, deal_stop, deal_go}
-use Rattle.words.specs.Words.{words}
-use Rattle.pool.specs.Writes.{pool, dealing}
-use lib.ListN.{length}
-use Prim.Native.Nat.{◌<◌, ◌≤◌, ◌-◌}
-use mathlib.Core.Path.{◌≡◌, refl, ◌∙◌}
+use mathlib.Core.Path.{refl, ◌∙◌}
 use native.Mathlib.Omega.{arith}
-use borrow.Author.Rules.{rules}
 use Rattle.groups.proofs.deal.Goals as goal
 
 pub loop-j-init : goal.loop-j-init

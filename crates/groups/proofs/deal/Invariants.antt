@@ -1,12 +1,9 @@
 -- `groups::deal`: what its loops keep, and what grows less. Assumes nothing.
-use Rattle.groups.proofs.Walks.{deal_start, deal_end, deal_stop, deal_go}
 use Rattle.words.specs.Words.{words}
 use Rattle.pool.specs.Writes.{pool, dealing}
 use lib.ListN.{length}
 use Prim.Native.Nat.{◌<◌, ◌≤◌, ◌-◌}
-use mathlib.Core.Path.{◌≡◌, refl, ◌∙◌}
-use native.Mathlib.Omega.{arith}
-use borrow.Author.Rules.{rules}
+use mathlib.Core.Path.{◌≡◌}
 use Rattle.groups.proofs.deal.Given as goal
 
 abbrev pub invariant-loop-j : goal.invariant-loop-j

@@ -1,12 +1,8 @@
 -- `groups::has_groups`: the goals that the search leaves. Assumes nothing.
 use Rattle.groups.proofs.Walks.{enough_end, enough_stop, enough_go, tells}
 use Rattle.pool.specs.Writes.{enough}
-use Rattle.words.specs.Words.{words}
-use lib.ListN.{get_or}
-use Prim.Native.Nat.{◌<◌}
-use mathlib.Core.Path.{◌≡◌, ap, ◌∙◌}
+use mathlib.Core.Path.{ap, ◌∙◌}
 use native.Mathlib.Omega.{arith}
-use borrow.Author.Rules.{rules}
 use Rattle.groups.proofs.has_groups.Goals as goal
 
 pub loop-left-init : goal.loop-left-init

@@ -1,12 +1,9 @@
 -- `groups::has_groups`: what its loops keep, and what grows less. Assumes nothing.
-use Rattle.groups.proofs.Walks.{enough_end, enough_stop, enough_go, tells}
 use Rattle.pool.specs.Writes.{enough}
 use Rattle.words.specs.Words.{words}
 use lib.ListN.{get_or}
 use Prim.Native.Nat.{◌<◌}
-use mathlib.Core.Path.{◌≡◌, ap, ◌∙◌}
-use native.Mathlib.Omega.{arith}
-use borrow.Author.Rules.{rules}
+use mathlib.Core.Path.{◌≡◌}
 use Rattle.groups.proofs.has_groups.Given as goal
 
 abbrev pub invariant-loop-left : goal.invariant-loop-left

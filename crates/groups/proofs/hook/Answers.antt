@@ -1,6 +1,5 @@
 -- `groups::hook`: the goals that the search leaves. Assumes nothing.
 use Rattle.groups.proofs.Walks.{hook_no, hook_nor, hook_yes}
-use borrow.Author.Rules.{rules}
 use Rattle.groups.proofs.hook.Goals as goal
 
 pub returns-then-b-eq0 : goal.returns-then-b-eq0

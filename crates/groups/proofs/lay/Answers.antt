@@ -1,6 +1,5 @@
 -- `groups::lay`: the goals that the search leaves. Assumes nothing.
 use Rattle.groups.proofs.Walks.{lays}
-use borrow.Author.Rules.{rules}
 use Rattle.groups.proofs.lay.Goals as goal
 
 pub returns : goal.returns

@@ -1,12 +1,7 @@
 -- `groups::merge`: the goals that the search leaves. Assumes nothing.
 use Rattle.groups.proofs.Walks.{join_end, join_go, merges}
-use Rattle.pool.specs.Writes.{row, joining}
-use Rattle.words.specs.Words.{words}
-use lib.ListN.{length, drop}
-use Prim.Native.Nat.{◌<◌, ◌≤◌, ◌-◌}
-use mathlib.Core.Path.{◌≡◌, refl, ◌∙◌}
+use mathlib.Core.Path.{refl, ◌∙◌}
 use native.Mathlib.Omega.{arith}
-use borrow.Author.Rules.{rules}
 use Rattle.groups.proofs.merge.Goals as goal
 
 pub loop-j-init : goal.loop-j-init

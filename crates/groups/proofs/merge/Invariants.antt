@@ -1,12 +1,9 @@
 -- `groups::merge`: what its loops keep, and what grows less. Assumes nothing.
-use Rattle.groups.proofs.Walks.{join_end, join_go, merges}
 use Rattle.pool.specs.Writes.{row, joining}
 use Rattle.words.specs.Words.{words}
 use lib.ListN.{length, drop}
 use Prim.Native.Nat.{◌<◌, ◌≤◌, ◌-◌}
-use mathlib.Core.Path.{◌≡◌, refl, ◌∙◌}
-use native.Mathlib.Omega.{arith}
-use borrow.Author.Rules.{rules}
+use mathlib.Core.Path.{◌≡◌}
 use Rattle.groups.proofs.merge.Given as goal
 
 abbrev pub invariant-loop-j : goal.invariant-loop-j

@@ -1,6 +1,5 @@
 -- `groups::split`: the goals that the search leaves. Assumes nothing.
 use Rattle.groups.proofs.Walks.{splits, splits_none}
-use borrow.Author.Rules.{rules}
 use Rattle.groups.proofs.split.Goals as goal
 
 pub returns-then-free-eq0 : goal.returns-then-free-eq0

@@ -1,7 +1,6 @@
 -- `groups::turn`: the goals that the search leaves. Assumes nothing.
 use Rattle.groups.proofs.Walks.{turn_none, turn_yes, turn_no}
 use native.Mathlib.Omega.{arith}
-use borrow.Author.Rules.{rules}
 use Rattle.groups.proofs.turn.Goals as goal
 
 pub returns-then-j-turns : goal.returns-then-j-turns

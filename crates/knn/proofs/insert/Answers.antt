@@ -4,8 +4,7 @@ use mathlib.Core.Bool.{not}
 use native.Mathlib.Omega.{arith}
 use lib.ListN.{length-set}
 use lib.Seq.{lt-length-set}
-use Rattle.knn.proofs.Arrays.{Moving, moving_start, moving_step, moving_stop, moving_end, moved}
-use borrow.Author.Rules.{rules}
+use Rattle.knn.proofs.Arrays.{moving_start, moving_step, moving_stop, moving_end, moved}
 use Rattle.knn.proofs.insert.Goals as goal
 
 pub loop-i-init : goal.loop-i-init

@@ -2,7 +2,6 @@
 use mathlib.Core.Path.{refl, sym, subst}
 use lib.Dec.{T}
 use Rattle.knn.proofs.Offers.{offer_room, offer_none, offer_away, offer_drop, sizes}
-use borrow.Author.Rules.{rules}
 use Rattle.knn.proofs.offer.Goals as goal
 
 pub returns-then-n-room : goal.returns-then-n-room

@@ -1,10 +1,7 @@
 -- `knn::order_children`: the goals that the search leaves. Assumes nothing.
-use mathlib.Core.Path.{◌≡◌, refl, ◌∙◌}
-use Prim.Native.Nat.{◌-◌, ◌≤◌}
+use mathlib.Core.Path.{refl, ◌∙◌}
 use native.Mathlib.Omega.{arith}
-use lib.ListN.{length}
-use Rattle.knn.proofs.Children.{Ordering, ordering_start, ordering_step, ordering_done}
-use borrow.Author.Rules.{rules}
+use Rattle.knn.proofs.Children.{ordering_start, ordering_step, ordering_done}
 use Rattle.knn.proofs.order_children.Goals as goal
 
 pub loop-i-init : goal.loop-i-init

@@ -1,10 +1,8 @@
 -- `knn::order_children`: what its loops keep, and what grows less. Assumes nothing.
-use mathlib.Core.Path.{◌≡◌, refl, ◌∙◌}
+use mathlib.Core.Path.{◌≡◌}
 use Prim.Native.Nat.{◌-◌, ◌≤◌}
-use native.Mathlib.Omega.{arith}
 use lib.ListN.{length}
-use Rattle.knn.proofs.Children.{Ordering, ordering_start, ordering_step, ordering_done}
-use borrow.Author.Rules.{rules}
+use Rattle.knn.proofs.Children.{Ordering}
 use Rattle.knn.proofs.order_children.Given as goal
 
 abbrev pub invariant-loop-i : goal.invariant-loop-i

@@ -1,7 +1,6 @@
 -- `knn::worst`: the goals that the search leaves. Assumes nothing.
 use Rattle.floats.proofs.Patterns.{inf_no_nan}
 use Rattle.knn.proofs.Bar.{minus_inf_no_nan, worst_room, worst_none, worst_last}
-use borrow.Author.Rules.{rules}
 use Rattle.knn.proofs.worst.Goals as goal
 
 pub float_from_bits-result : goal.float_from_bits-result

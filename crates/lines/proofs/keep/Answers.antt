@@ -1,7 +1,6 @@
 -- `lines::keep`: the goals that the search leaves. Assumes nothing.
 use borrow.Author.Rules.{rules}
-use Prim.Native.Nat.{◌-◌}
-use Rattle.record.proofs.Kept.{Moving, moving_start, moving_step, keeps, keeps_none}
+use Rattle.record.proofs.Kept.{moving_start, moving_step, keeps, keeps_none}
 use Rattle.lines.proofs.keep.Goals as goal
 
 pub returns-then-end-from : goal.returns-then-end-from

@@ -1,7 +1,6 @@
 -- `lines::keep`: what its loops keep, and what grows less. Assumes nothing.
-use borrow.Author.Rules.{rules}
 use Prim.Native.Nat.{◌-◌}
-use Rattle.record.proofs.Kept.{Moving, moving_start, moving_step, keeps, keeps_none}
+use Rattle.record.proofs.Kept.{Moving}
 use Rattle.lines.proofs.keep.Given as goal
 
 abbrev pub invariant-loop-i : goal.invariant-loop-i

@@ -1,5 +1,4 @@
 -- `lines::line_of`: the goals that the search leaves. Assumes nothing.
-use borrow.Author.Rules.{rules}
 use Rattle.record.proofs.Streams.{stands}
 use Rattle.lines.proofs.line_of.Goals as goal
 

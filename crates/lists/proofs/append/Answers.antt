@@ -1,6 +1,5 @@
 -- `lists::append`: the goals that the search leaves. Assumes nothing.
 use Rattle.pool.proofs.Steps.{appends_first, appends_later}
-use borrow.Author.Rules.{rules}
 use Rattle.lists.proofs.append.Goals as goal
 
 pub returns-then-b-eq0 : goal.returns-then-b-eq0

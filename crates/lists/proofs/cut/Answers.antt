@@ -1,6 +1,5 @@
 -- `lists::cut`: the goals that the search leaves. Assumes nothing.
 use Rattle.pool.proofs.Steps.{cuts_first, cuts_later}
-use borrow.Author.Rules.{rules}
 use Rattle.lists.proofs.cut.Goals as goal
 
 pub returns-then-b-eq0 : goal.returns-then-b-eq0

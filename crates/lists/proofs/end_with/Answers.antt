@@ -1,6 +1,5 @@
 -- `lists::end_with`: the goals that the search leaves. Assumes nothing.
 use Rattle.pool.proofs.Steps.{ends}
-use borrow.Author.Rules.{rules}
 use Rattle.lists.proofs.end_with.Goals as goal
 
 pub returns : goal.returns

@@ -1,6 +1,5 @@
 -- `lists::relast`: the goals that the search leaves. Assumes nothing.
 use Rattle.pool.proofs.Steps.{relast_yes, relast_no}
-use borrow.Author.Rules.{rules}
 use Rattle.lists.proofs.relast.Goals as goal
 
 pub returns-then-after-eq0 : goal.returns-then-after-eq0

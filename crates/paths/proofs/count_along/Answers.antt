@@ -1,10 +1,6 @@
 -- `paths::count_along`: the goals that the search leaves. Assumes nothing.
-use mathlib.Core.Path.{◌≡◌, refl, ◌∙◌}
-use Prim.Native.Nat.{◌-◌}
-use lib.ListN.{length}
-use Rattle.words.specs.Words.{words}
-use Rattle.trees.proofs.Ways.{CountingUp, counting_up_end, counting_up_over, counting_up_start, counting_up_step}
-use borrow.Author.Rules.{rules}
+use mathlib.Core.Path.{refl, ◌∙◌}
+use Rattle.trees.proofs.Ways.{counting_up_end, counting_up_over, counting_up_start, counting_up_step}
 use Rattle.paths.proofs.count_along.Goals as goal
 
 pub loop-j-init : goal.loop-j-init

@@ -1,10 +1,9 @@
 -- `paths::count_along`: what its loops keep, and what grows less. Assumes nothing.
-use mathlib.Core.Path.{◌≡◌, refl, ◌∙◌}
+use mathlib.Core.Path.{◌≡◌}
 use Prim.Native.Nat.{◌-◌}
 use lib.ListN.{length}
 use Rattle.words.specs.Words.{words}
-use Rattle.trees.proofs.Ways.{CountingUp, counting_up_end, counting_up_over, counting_up_start, counting_up_step}
-use borrow.Author.Rules.{rules}
+use Rattle.trees.proofs.Ways.{CountingUp}
 use Rattle.paths.proofs.count_along.Given as goal
 
 abbrev pub invariant-loop-j : goal.invariant-loop-j

@@ -1,6 +1,5 @@
 -- `paths::note`: the goals that the search leaves. Assumes nothing.
 use Rattle.trees.proofs.Walks.{note_yes, note_full, note_no}
-use borrow.Author.Rules.{rules}
 use Rattle.paths.proofs.note.Goals as goal
 
 pub returns-then-n-found : goal.returns-then-n-found

@@ -1,6 +1,5 @@
 -- `paths::note_node`: the goals that the search leaves. Assumes nothing.
 use Rattle.trees.proofs.Turns.{turn_full}
-use borrow.Author.Rules.{rules}
 use Rattle.paths.proofs.note_node.Goals as goal
 
 pub returns : goal.returns

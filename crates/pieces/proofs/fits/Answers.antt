@@ -3,7 +3,6 @@ use native.Mathlib.Omega.{arith}
 use Rattle.pool.proofs.Steps.{product_small}
 use Rattle.trees.specs.Pieces.{pieces}
 use Rattle.trees.proofs.Heads.{measured}
-use borrow.Author.Rules.{rules}
 use Rattle.pieces.proofs.fits.Goals as goal
 
 pub overflow_mul-result-2 : goal.overflow_mul-result-2

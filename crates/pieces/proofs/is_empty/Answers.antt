@@ -1,7 +1,6 @@
 -- `pieces::is_empty`: the goals that the search leaves. Assumes nothing.
 use Rattle.trees.specs.Pieces.{pieces}
 use Rattle.trees.proofs.Queries.{empty_no, empty_yes}
-use borrow.Author.Rules.{rules}
 use Rattle.pieces.proofs.is_empty.Goals as goal
 
 pub returns-then-count-eq0 : goal.returns-then-count-eq0

@@ -1,7 +1,6 @@
 -- `pieces::len`: the goals that the search leaves. Assumes nothing.
 use Rattle.trees.specs.Pieces.{pieces}
 use Rattle.trees.proofs.Queries.{len_told}
-use borrow.Author.Rules.{rules}
 use Rattle.pieces.proofs.len.Goals as goal
 
 pub returns : goal.returns

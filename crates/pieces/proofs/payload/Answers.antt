@@ -1,7 +1,6 @@
 -- `pieces::payload`: the goals that the search leaves. Assumes nothing.
 use Rattle.trees.proofs.Heads.{payload_at}
 use Rattle.words.specs.Words.{words}
-use borrow.Author.Rules.{rules}
 use Rattle.pieces.proofs.payload.Goals as goal
 
 pub returns : goal.returns

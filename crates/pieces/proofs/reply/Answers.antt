@@ -1,6 +1,5 @@
 -- `pieces::reply`: the goals that the search leaves. Assumes nothing.
 use Rattle.pieces.proofs.Creations.{reply_made, reply_refused}
-use borrow.Author.Rules.{rules}
 use Rattle.pieces.proofs.reply.Goals as goal
 
 pub returns-in-Made : goal.returns-in-Made

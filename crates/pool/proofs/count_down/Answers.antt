@@ -1,6 +1,5 @@
 -- `pool::count_down`: the goals that the search leaves. Assumes nothing.
 use Rattle.pool.proofs.Steps.{counts_down, counts_none}
-use borrow.Author.Rules.{rules}
 use Rattle.pool.proofs.count_down.Goals as goal
 
 pub returns-then-v-eq0 : goal.returns-then-v-eq0

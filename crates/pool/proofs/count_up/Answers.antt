@@ -1,6 +1,5 @@
 -- `pool::count_up`: the goals that the search leaves. Assumes nothing.
 use Rattle.pool.proofs.Steps.{counts_up}
-use borrow.Author.Rules.{rules}
 use Rattle.pool.proofs.count_up.Goals as goal
 
 pub returns : goal.returns

@@ -1,7 +1,6 @@
 -- `pool::field`: the goals that the search leaves. Assumes nothing.
 use Rattle.pool.proofs.Steps.{far_field}
 use native.Mathlib.Omega.{arith}
-use borrow.Author.Rules.{rules}
 use Rattle.pool.proofs.field.Goals as goal
 
 pub returns-else-i-lt-FAR : goal.returns-else-i-lt-FAR

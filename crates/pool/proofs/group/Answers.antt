@@ -1,7 +1,6 @@
 -- `pool::group`: the goals that the search leaves. Assumes nothing.
 use Rattle.words.specs.Words.{words}
 use Rattle.pool.proofs.Steps.{plain_at}
-use borrow.Author.Rules.{rules}
 use Rattle.pool.proofs.group.Goals as goal
 
 pub returns : goal.returns

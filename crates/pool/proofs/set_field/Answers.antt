@@ -1,7 +1,6 @@
 -- `pool::set_field`: the goals that the search leaves. Assumes nothing.
 use Rattle.pool.proofs.Steps.{far_set}
 use native.Mathlib.Omega.{arith}
-use borrow.Author.Rules.{rules}
 use Rattle.pool.proofs.set_field.Goals as goal
 
 pub returns-else-i-lt-FAR : goal.returns-else-i-lt-FAR

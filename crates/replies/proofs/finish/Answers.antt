@@ -1,7 +1,6 @@
 -- `replies::finish`: the goals that the search leaves. Assumes nothing.
 use native.Mathlib.Omega.{arith}
 use Rattle.replies.proofs.Feeds.{finished_none, finished_some}
-use borrow.Author.Rules.{rules}
 use Rattle.replies.proofs.finish.Goals as goal
 
 pub returns-then-n-text : goal.returns-then-n-text

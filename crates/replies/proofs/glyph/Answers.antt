@@ -2,7 +2,6 @@
 use native.Mathlib.Omega.{arith}
 use lib.Dec.{ltb}
 use Rattle.replies.proofs.Written.{letter_small, glyph_is}
-use borrow.Author.Rules.{rules}
 use Rattle.replies.proofs.glyph.Goals as goal
 
 pub overflow_mul-result : goal.overflow_mul-result

@@ -1,6 +1,5 @@
 -- `replies::has_room`: the goals that the search leaves. Assumes nothing.
 use Rattle.replies.proofs.Feeds.{room_left, room_none}
-use borrow.Author.Rules.{rules}
 use Rattle.replies.proofs.has_room.Goals as goal
 
 pub returns-then-at-size : goal.returns-then-at-size

@@ -3,7 +3,6 @@ use native.Mathlib.Omega.{arith}
 use Rattle.record.specs.Numbers.{decimal}
 use Rattle.replies.specs.Lines.{field}
 use Rattle.replies.proofs.Written.{done_written, puts_none, puts_some}
-use borrow.Author.Rules.{rules}
 use Rattle.replies.proofs.put_figure.Goals as goal
 
 pub returns-then-out-lt14 : goal.returns-then-out-lt14

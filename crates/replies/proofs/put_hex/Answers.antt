@@ -3,8 +3,7 @@ use mathlib.Core.Path.{refl}
 use Prim.Native.Nat.{◌-◌, ◌*◌}
 use native.Mathlib.Omega.{arith}
 use lib.ListN.{length-set}
-use Rattle.replies.proofs.Hexes.{Hexing, eight_are, eight_small, hexing_start, hexing_step, hexing_end}
-use borrow.Author.Rules.{rules}
+use Rattle.replies.proofs.Hexes.{eight_are, eight_small, hexing_start, hexing_step, hexing_end}
 use Rattle.replies.proofs.put_hex.Goals as goal
 
 pub loop-k-init : goal.loop-k-init

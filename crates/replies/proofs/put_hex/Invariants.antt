@@ -1,10 +1,5 @@
 -- `replies::put_hex`: what its loops keep, and what grows less. Assumes nothing.
-use mathlib.Core.Path.{refl}
-use Prim.Native.Nat.{◌-◌, ◌*◌}
-use native.Mathlib.Omega.{arith}
-use lib.ListN.{length-set}
-use Rattle.replies.proofs.Hexes.{Hexing, eight_are, eight_small, hexing_start, hexing_step, hexing_end}
-use borrow.Author.Rules.{rules}
+use Rattle.replies.proofs.Hexes.{Hexing}
 use Rattle.replies.proofs.put_hex.Given as goal
 
 abbrev pub invariant-loop-k : goal.invariant-loop-k

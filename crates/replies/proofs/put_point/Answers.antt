@@ -1,9 +1,7 @@
 -- `replies::put_point`: the goals that the search leaves. Assumes nothing.
 use mathlib.Core.Path.{refl}
-use Prim.Native.Nat.{◌-◌}
 use native.Mathlib.Omega.{arith}
-use Rattle.replies.proofs.Points.{Placing, placing_start, placing_step, placing_end}
-use borrow.Author.Rules.{rules}
+use Rattle.replies.proofs.Points.{placing_start, placing_step, placing_end}
 use Rattle.replies.proofs.put_point.Goals as goal
 
 pub loop-a-init : goal.loop-a-init

@@ -1,9 +1,6 @@
 -- `replies::put_point`: what its loops keep, and what grows less. Assumes nothing.
-use mathlib.Core.Path.{refl}
 use Prim.Native.Nat.{◌-◌}
-use native.Mathlib.Omega.{arith}
-use Rattle.replies.proofs.Points.{Placing, placing_start, placing_step, placing_end}
-use borrow.Author.Rules.{rules}
+use Rattle.replies.proofs.Points.{Placing}
 use Rattle.replies.proofs.put_point.Given as goal
 
 abbrev pub invariant-loop-a : goal.invariant-loop-a

@@ -1,9 +1,8 @@
 -- `replies::put_points`: the goals that the search leaves. Assumes nothing.
-use Prim.Native.Nat.{◌-◌, ◌+◌, ◌*◌}
+use Prim.Native.Nat.{◌+◌, ◌*◌}
 use native.Mathlib.Omega.{arith}
 use Rattle.answers.proofs.Writes.{fits_place}
-use Rattle.replies.proofs.Points.{Pointing, pointing_start, pointing_step, pointing_end, pointing_within, room_for}
-use borrow.Author.Rules.{rules}
+use Rattle.replies.proofs.Points.{pointing_start, pointing_step, pointing_end, pointing_within, room_for}
 use Rattle.replies.proofs.put_points.Goals as goal
 
 pub loop-j-init : goal.loop-j-init

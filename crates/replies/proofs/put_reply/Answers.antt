@@ -3,7 +3,6 @@ use native.Mathlib.Omega.{arith}
 use Rattle.record.specs.Numbers.{decimal}
 use Rattle.replies.specs.Lines.{crlf}
 use Rattle.replies.proofs.Written.{puts_none, puts_some, then}
-use borrow.Author.Rules.{rules}
 use Rattle.replies.proofs.put_reply.Goals as goal
 
 pub returns-then-out-lt12 : goal.returns-then-out-lt12

@@ -4,7 +4,6 @@ use native.Mathlib.Nat.{mul-le-mul_right}
 use native.Mathlib.Omega.{arith}
 use Rattle.replies.proofs.Told.{told_done, told_refused, told_unlent}
 use Rattle.replies.proofs.Written.{puts_none, puts_some, unwritten}
-use borrow.Author.Rules.{rules}
 use Rattle.replies.proofs.put_told.Goals as goal
 
 pub returns-then-reply-ne0 : goal.returns-then-reply-ne0

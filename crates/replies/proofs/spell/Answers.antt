@@ -1,10 +1,7 @@
 -- `replies::spell`: the goals that the search leaves. Assumes nothing.
-use Prim.Native.Nat.{ℕ, ◌≤◌, ◌+◌}
-use mathlib.Core.Path.{◌≡◌, refl, sym, ap, ◌∙◌}
-use lib.ListN.{length}
-use lib.Seq.{sets}
+use Prim.Native.Nat.{ℕ, ◌+◌}
+use mathlib.Core.Path.{refl, sym, ap, ◌∙◌}
 use Rattle.record.proofs.Round.{spelt_length}
-use Rattle.record.specs.Numbers.{spelt}
 use Rattle.record.proofs.Spelling.{spelt_turn, spelt_done}
 use borrow.Author.Rules.{rules}
 use Rattle.replies.proofs.spell.Goals as goal

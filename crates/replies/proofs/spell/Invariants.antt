@@ -1,12 +1,9 @@
 -- `replies::spell`: what its loops keep, and what grows less. Assumes nothing.
-use Prim.Native.Nat.{ℕ, ◌≤◌, ◌+◌}
-use mathlib.Core.Path.{◌≡◌, refl, sym, ap, ◌∙◌}
+use Prim.Native.Nat.{◌≤◌}
+use mathlib.Core.Path.{◌≡◌}
 use lib.ListN.{length}
 use lib.Seq.{sets}
-use Rattle.record.proofs.Round.{spelt_length}
 use Rattle.record.specs.Numbers.{spelt}
-use Rattle.record.proofs.Spelling.{spelt_turn, spelt_done}
-use borrow.Author.Rules.{rules}
 use Rattle.replies.proofs.spell.Given as goal
 
 abbrev pub invariant-loop-i : goal.invariant-loop-i

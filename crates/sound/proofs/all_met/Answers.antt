@@ -1,10 +1,6 @@
 -- `sound::all_met`: the goals that the search leaves. Assumes nothing.
 use native.Mathlib.Omega.{arith}
-use Rattle.trees.proofs.Marks.{MetTo, met_start, met_more, met_not, met_end}
-use Prim.Native.Nat.{◌-◌, ◌≤◌}
-use lib.ListN.{length}
-use Rattle.trees.proofs.Marks.{MetTo}
-use borrow.Author.Rules.{rules}
+use Rattle.trees.proofs.Marks.{met_start, met_more, met_not, met_end}
 use Rattle.sound.proofs.all_met.Goals as goal
 
 pub loop-i-init : goal.loop-i-init

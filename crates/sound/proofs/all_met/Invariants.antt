@@ -1,10 +1,8 @@
 -- `sound::all_met`: what its loops keep, and what grows less. Assumes nothing.
-use native.Mathlib.Omega.{arith}
-use Rattle.trees.proofs.Marks.{MetTo, met_start, met_more, met_not, met_end}
+use Rattle.trees.proofs.Marks.{MetTo}
 use Prim.Native.Nat.{◌-◌, ◌≤◌}
 use lib.ListN.{length}
 use Rattle.trees.proofs.Marks.{MetTo}
-use borrow.Author.Rules.{rules}
 use Rattle.sound.proofs.all_met.Given as goal
 
 abbrev pub invariant-loop-i : goal.invariant-loop-i

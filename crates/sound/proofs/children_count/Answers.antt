@@ -1,15 +1,12 @@
 -- `sound::children_count`: the goals that the search leaves. Assumes nothing.
 use lib.ListN.{get_or}
-use mathlib.Core.Path.{◌≡◌, ap, ◌∙◌}
-use Rattle.trees.proofs.Checks.{counts, counts_start, counts_step, counts_end}
+use mathlib.Core.Path.{ap, ◌∙◌}
+use Rattle.trees.proofs.Checks.{counts_start, counts_step, counts_end}
 use native.Mathlib.Omega.{arith}
-use mathlib.Core.Path.{◌≡◌, ap}
-use Rattle.trees.proofs.Checks.{counts, counts_step, counts_end}
-use mathlib.Core.Path.{◌≡◌}
-use Prim.Native.Nat.{◌+◌, ◌-◌, ◌≤◌, ◌*◌}
+use mathlib.Core.Path.{ap}
+use Rattle.trees.proofs.Checks.{counts_step, counts_end}
+use Prim.Native.Nat.{◌+◌, ◌*◌}
 use Rattle.words.specs.Words.{words}
-use Rattle.trees.proofs.Checks.{counts}
-use borrow.Author.Rules.{rules}
 use Rattle.sound.proofs.children_count.Goals as goal
 
 pub loop-c-init : goal.loop-c-init

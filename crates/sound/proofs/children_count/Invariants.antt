@@ -1,15 +1,12 @@
 -- `sound::children_count`: what its loops keep, and what grows less. Assumes nothing.
-use lib.ListN.{get_or}
-use mathlib.Core.Path.{◌≡◌, ap, ◌∙◌}
-use Rattle.trees.proofs.Checks.{counts, counts_start, counts_step, counts_end}
-use native.Mathlib.Omega.{arith}
-use mathlib.Core.Path.{◌≡◌, ap}
-use Rattle.trees.proofs.Checks.{counts, counts_step, counts_end}
+use mathlib.Core.Path.{◌≡◌}
+use Rattle.trees.proofs.Checks.{counts}
+use mathlib.Core.Path.{◌≡◌}
+use Rattle.trees.proofs.Checks.{counts}
 use mathlib.Core.Path.{◌≡◌}
 use Prim.Native.Nat.{◌+◌, ◌-◌, ◌≤◌, ◌*◌}
 use Rattle.words.specs.Words.{words}
 use Rattle.trees.proofs.Checks.{counts}
-use borrow.Author.Rules.{rules}
 use Rattle.sound.proofs.children_count.Given as goal
 
 abbrev pub invariant-loop-c : goal.invariant-loop-c

@@ -1,6 +1,5 @@
 -- `sound::claim`: the goals that the search leaves. Assumes nothing.
 use Rattle.trees.proofs.Marks.{claims_far, claims_met, claims_yes}
-use borrow.Author.Rules.{rules}
 use Rattle.sound.proofs.claim.Goals as goal
 
 pub returns-then-i-marks : goal.returns-then-i-marks

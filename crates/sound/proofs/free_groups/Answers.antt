@@ -1,13 +1,10 @@
 -- `sound::free_groups`: the goals that the search leaves. Assumes nothing.
-use Rattle.trees.proofs.Marks.{Freeing, freeing_start, freeing_step, freeing_over, freeing_met, freeing_end}
+use Rattle.trees.proofs.Marks.{freeing_start, freeing_step, freeing_over, freeing_met, freeing_end}
 use mathlib.Core.Path.{ap, ◌∙◌}
 use borrow.Author.Tests.{not-false}
-use Prim.Native.Nat.{◌*◌, ◌≤◌}
-use lib.ListN.{length, get_or}
+use Prim.Native.Nat.{◌*◌}
+use lib.ListN.{get_or}
 use Rattle.words.specs.Words.{words}
-use Rattle.pool.specs.Writes.{kid}
-use Rattle.trees.proofs.Marks.{Freeing}
-use borrow.Author.Rules.{rules}
 use Rattle.sound.proofs.free_groups.Goals as goal
 
 pub loop-k-init : goal.loop-k-init

@@ -1,13 +1,10 @@
 -- `sound::free_groups`: what its loops keep, and what grows less. Assumes nothing.
-use Rattle.trees.proofs.Marks.{Freeing, freeing_start, freeing_step, freeing_over, freeing_met, freeing_end}
-use mathlib.Core.Path.{ap, ◌∙◌}
-use borrow.Author.Tests.{not-false}
+use Rattle.trees.proofs.Marks.{Freeing}
 use Prim.Native.Nat.{◌*◌, ◌≤◌}
 use lib.ListN.{length, get_or}
 use Rattle.words.specs.Words.{words}
 use Rattle.pool.specs.Writes.{kid}
 use Rattle.trees.proofs.Marks.{Freeing}
-use borrow.Author.Rules.{rules}
 use Rattle.sound.proofs.free_groups.Given as goal
 
 abbrev pub invariant-loop-k : goal.invariant-loop-k

@@ -1,11 +1,6 @@
 -- `sound::free_places`: the goals that the search leaves. Assumes nothing.
-use Rattle.trees.proofs.Marks.{Freeing, freeing_start, freeing_step, freeing_over, freeing_met, freeing_end}
+use Rattle.trees.proofs.Marks.{freeing_start, freeing_step, freeing_over, freeing_met, freeing_end}
 use borrow.Author.Tests.{not-false}
-use Prim.Native.Nat.{◌<◌}
-use lib.ListN.{length, get_or}
-use Rattle.words.specs.Words.{words}
-use Rattle.trees.proofs.Marks.{Freeing}
-use borrow.Author.Rules.{rules}
 use Rattle.sound.proofs.free_places.Goals as goal
 
 pub loop-p-init : goal.loop-p-init

@@ -1,11 +1,9 @@
 -- `sound::free_places`: what its loops keep, and what grows less. Assumes nothing.
-use Rattle.trees.proofs.Marks.{Freeing, freeing_start, freeing_step, freeing_over, freeing_met, freeing_end}
-use borrow.Author.Tests.{not-false}
+use Rattle.trees.proofs.Marks.{Freeing}
 use Prim.Native.Nat.{◌<◌}
 use lib.ListN.{length, get_or}
 use Rattle.words.specs.Words.{words}
 use Rattle.trees.proofs.Marks.{Freeing}
-use borrow.Author.Rules.{rules}
 use Rattle.sound.proofs.free_places.Given as goal
 
 abbrev pub invariant-loop-p : goal.invariant-loop-p

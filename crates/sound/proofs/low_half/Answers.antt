@@ -3,7 +3,6 @@ use mathlib.Core.Path.{ap, ◌∙◌}
 use mathlib.Core.Bool.{cond}
 use lib.Ieee.{Float}
 use Rattle.trees.proofs.Areas.{higher, low_same, low_mid, low_low}
-use borrow.Author.Rules.{rules}
 use Rattle.sound.proofs.low_half.Goals as goal
 
 pub returns-then-not-high : goal.returns-then-not-high

@@ -1,7 +1,6 @@
 -- `sound::no_top`: the goals that the search leaves. Assumes nothing.
 use mathlib.Core.Path.{◌≡◌, refl, ◌∙◌}
 use lib.Ieee.{nan, binary64, of_bits}
-use borrow.Author.Rules.{rules}
 use Rattle.sound.proofs.no_top.Goals as goal
 
 nan_bits : of_bits binary64 0x7ff8_0000_0000_0000 ≡ nan

@@ -1,6 +1,5 @@
 -- `sound::rest_is_free`: the goals that the search leaves. Assumes nothing.
 use Rattle.trees.proofs.Marks.{rest_places, rest_groups, rest_all}
-use borrow.Author.Rules.{rules}
 use Rattle.sound.proofs.rest_is_free.Goals as goal
 
 pub returns-then-not-free_places : goal.returns-then-not-free_places

@@ -3,7 +3,6 @@ use mathlib.Core.Path.{ap, ◌∙◌}
 use mathlib.Core.Bool.{cond}
 use lib.Ieee.{Float}
 use Rattle.trees.proofs.Areas.{lower, top_mid, top_top}
-use borrow.Author.Rules.{rules}
 use Rattle.sound.proofs.top_half.Goals as goal
 
 pub returns-then-plane-top : goal.returns-then-plane-top

@@ -11,7 +11,6 @@ use Rattle.trees.proofs.Deletes.{along_all}
 use Rattle.trees.proofs.Ways.{path_is}
 use Rattle.tree.specs.Depths.{kind}
 use Rattle.tree.proofs.Numbers.{coords_numbers}
-use borrow.Author.Rules.{rules}
 use Rattle.tree_delete.proofs.delete.Goals as goal
 
 pub returns-then-not-contains : goal.returns-then-not-contains

@@ -7,7 +7,6 @@ use Rattle.model.specs.Calls.{ways}
 use Rattle.pool.specs.Writes.{pool}
 use Rattle.trees.proofs.Deletes.{Along}
 use Rattle.tree.specs.Depths.{kind}
-use borrow.Author.Rules.{rules}
 use Rattle.tree_delete.proofs.unlink.Goals as goal
 
 pub returns-then-deep : goal.returns-then-deep

@@ -1,19 +1,12 @@
 -- `tree_sound::check_node`: what its loops keep, and what grows less. Assumes nothing.
-use Rattle.tree.proofs.Depths.{most_ways}
-use borrow.Author.Rules.{rules}
-use mathlib.Core.Path.{ap, ap₂, ◌∙◌, refl}
 use Prim.Native.Nat.{◌-◌}
-use native.Mathlib.Omega.{arith}
 use lib.Dec.{eqb}
 use Rattle.words.specs.Words.{words}
-use Rattle.model.specs.Boxes.{part}
 use Rattle.model.specs.Calls.{ways}
 use Rattle.tree.specs.Depths.{kind, place, sides}
-use Rattle.tree_sound.proofs.Starts.{some_ways}
 use Rattle.trees.specs.Points.{point_at}
-use Rattle.trees.proofs.Areas.{bounding, narrowed_bounding}
-use Rattle.trees.proofs.Checks.{counts, Descending, descending_start, descending_step, descending_not, descending_end, leaf_checked, check_deep, check_few, check_taken, check_divided}
-use Prim.Native.Nat.{ℕ, ◌<◌}
+use Rattle.trees.proofs.Areas.{bounding}
+use Rattle.trees.proofs.Checks.{counts, Descending}
 use Rattle.tree_sound.proofs.+check_node.Given as goal
 
 abbrev pub decreases-check_node : goal.decreases-check_node

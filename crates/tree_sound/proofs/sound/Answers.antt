@@ -3,7 +3,6 @@ use mathlib.Core.Path.{refl, sym, ap}
 use Prim.Native.Nat.{suc}
 use lib.ListN.{replicate}
 use Rattle.tree.specs.Depths.{groups}
-use borrow.Author.Rules.{rules}
 use Rattle.tree_sound.proofs.sound.Goals as goal
 
 pub returns-then-deep : goal.returns-then-deep

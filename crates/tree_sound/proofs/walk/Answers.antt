@@ -7,7 +7,6 @@ use Rattle.trees.proofs.Soundness.{sound_lengths, sound_boundary, sound_capacity
 use Rattle.tree.specs.Depths.{groups, kind, sides}
 use Rattle.tree.proofs.Depths.{roomy}
 use Rattle.tree_sound.proofs.Starts.{checks_as, rest_as, two_ways, whole_of}
-use borrow.Author.Rules.{rules}
 use Rattle.tree_sound.proofs.walk.Goals as goal
 
 pub returns-then-not-fits : goal.returns-then-not-fits

@@ -1,6 +1,5 @@
 -- `tree_sound_leaves::check_leaf`: the goals that the search leaves. Assumes nothing.
 use Rattle.trees.proofs.Checks.{leaf_over, leaf_places}
-use borrow.Author.Rules.{rules}
 use Rattle.tree_sound_leaves.proofs.check_leaf.Goals as goal
 
 pub returns-then-levels-n : goal.returns-then-levels-n

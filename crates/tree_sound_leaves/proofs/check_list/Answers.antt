@@ -1,10 +1,5 @@
 -- `tree_sound_leaves::check_list`: the goals that the search leaves. Assumes nothing.
-use borrow.Author.Rules.{rules}
-use Rattle.words.specs.Words.{words}
-use Rattle.trees.specs.Points.{point_at}
-use Rattle.trees.proofs.Areas.{bounding}
-use Rattle.trees.proofs.Checks.{Listing, listing_start, listing_over, listing_met, listing_out, listing_step, listing_end}
-use Rattle.tree.specs.Depths.{kind, place}
+use Rattle.trees.proofs.Checks.{listing_start, listing_over, listing_met, listing_out, listing_step, listing_end}
 use Rattle.tree_sound_leaves.proofs.check_list.Goals as goal
 
 pub loop-p-init : goal.loop-p-init

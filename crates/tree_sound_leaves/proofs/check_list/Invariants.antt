@@ -1,9 +1,8 @@
 -- `tree_sound_leaves::check_list`: what its loops keep, and what grows less. Assumes nothing.
-use borrow.Author.Rules.{rules}
 use Rattle.words.specs.Words.{words}
 use Rattle.trees.specs.Points.{point_at}
 use Rattle.trees.proofs.Areas.{bounding}
-use Rattle.trees.proofs.Checks.{Listing, listing_start, listing_over, listing_met, listing_out, listing_step, listing_end}
+use Rattle.trees.proofs.Checks.{Listing}
 use Rattle.tree.specs.Depths.{kind, place}
 use Rattle.tree_sound_leaves.proofs.check_list.Given as goal
 

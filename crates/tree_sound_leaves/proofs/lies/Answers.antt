@@ -4,7 +4,6 @@ use mathlib.Core.Bool.{◌&&◌}
 use mathlib.Core.List.{[], ◌∷◌}
 use Rattle.trees.proofs.Areas.{bounding, lies, lies_last, lies_more}
 use Rattle.tree.specs.Depths.{place}
-use borrow.Author.Rules.{rules}
 use Rattle.tree_sound_leaves.proofs.lies.Goals as goal
 
 pub returns-then-deep : goal.returns-then-deep

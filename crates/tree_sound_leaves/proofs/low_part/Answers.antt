@@ -6,7 +6,6 @@ use Rattle.model.specs.Boxes.{side}
 use Rattle.trees.proofs.Areas.{lows, lows_more, lows_none}
 use Rattle.trees.proofs.Collects.{said_no, said_yes}
 use Rattle.tree.specs.Depths.{place, sides}
-use borrow.Author.Rules.{rules}
 use Rattle.tree_sound_leaves.proofs.low_part.Goals as goal
 
 pub returns-then-not-deep : goal.returns-then-not-deep

@@ -6,7 +6,6 @@ use Rattle.model.specs.Boxes.{side}
 use Rattle.trees.proofs.Areas.{tops, tops_more, tops_none}
 use Rattle.trees.proofs.Collects.{said_no, said_yes}
 use Rattle.tree.specs.Depths.{place, sides}
-use borrow.Author.Rules.{rules}
 use Rattle.tree_sound_leaves.proofs.top_part.Goals as goal
 
 pub returns-then-not-deep : goal.returns-then-not-deep

@@ -2,7 +2,6 @@
 use Rattle.words.proofs.Words.{words_out}
 use mathlib.Core.Path.{sym}
 use native.Mathlib.Omega.{arith}
-use borrow.Author.Rules.{rules}
 use Rattle.words.proofs.get.Goals as goal
 
 pub returns-else-i-t : goal.returns-else-i-t

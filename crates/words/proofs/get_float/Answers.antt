@@ -1,7 +1,6 @@
 -- `words::get_float`: the goals that the search leaves. Assumes nothing.
 use lib.Ieee.{binary64, of_bits}
 use mathlib.Core.Path.{ap, ◌∙◌}
-use borrow.Author.Rules.{rules}
 use Rattle.words.proofs.get_float.Goals as goal
 
 pub returns : goal.returns

@@ -2,7 +2,6 @@
 use Rattle.words.proofs.Pairs.{pair_loaded, pair_missing}
 use mathlib.Core.Path.{sym}
 use native.Mathlib.Omega.{arith}
-use borrow.Author.Rules.{rules}
 use Rattle.words.proofs.get_pair.Goals as goal
 
 pub returns-then-i-t : goal.returns-then-i-t

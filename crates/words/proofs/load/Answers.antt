@@ -2,7 +2,6 @@
 use Rattle.words.proofs.Words.{words_at}
 use mathlib.Core.Path.{sym, ◌∙◌}
 use native.Mathlib.Omega.{arith}
-use borrow.Author.Rules.{rules}
 use Rattle.words.proofs.load.Goals as goal
 
 pub returns : goal.returns

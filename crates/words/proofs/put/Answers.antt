@@ -1,7 +1,6 @@
 -- `words::put`: the goals that the search leaves. Assumes nothing.
 use Rattle.words.proofs.Words.{words_set_out}
 use native.Mathlib.Omega.{arith}
-use borrow.Author.Rules.{rules}
 use Rattle.words.proofs.put.Goals as goal
 
 pub returns-else-i-t : goal.returns-else-i-t

@@ -1,7 +1,6 @@
 -- `words::put_float`: the goals that the search leaves. Assumes nothing.
 use Rattle.words.specs.Words.{set_pair}
 use mathlib.Core.Path.{ap, ◌∙◌}
-use borrow.Author.Rules.{rules}
 use Rattle.words.proofs.put_float.Goals as goal
 
 pub returns : goal.returns

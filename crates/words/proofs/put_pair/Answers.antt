@@ -1,7 +1,6 @@
 -- `words::put_pair`: the goals that the search leaves. Assumes nothing.
 use Rattle.words.proofs.Pairs.{pair_stored, pair_not_stored}
 use native.Mathlib.Omega.{arith}
-use borrow.Author.Rules.{rules}
 use Rattle.words.proofs.put_pair.Goals as goal
 
 pub returns-then-i-t : goal.returns-then-i-t

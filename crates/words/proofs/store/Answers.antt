@@ -2,7 +2,6 @@
 use Rattle.words.proofs.Words.{words_set}
 use lib.ListN.{length-set}
 use native.Mathlib.Omega.{arith}
-use borrow.Author.Rules.{rules}
 use Rattle.words.proofs.store.Goals as goal
 
 pub bounds-t-k-2 : goal.bounds-t-k-2

@@ -42,7 +42,7 @@ impl Pair {
     fn new<S: Space>(ours: &Path, folder: &Path) -> Result<Pair, String> {
         let ours = Program { path: ours.join(S::WORD), words: Vec::new() };
         if !ours.path.is_file() {
-            return Err(format!("{} is missing: run rt check {}", ours.path.display(), S::WORD));
+            return Err(format!("{} is missing: run tools/build {}", ours.path.display(), S::WORD));
         }
         let mut path = std::env::current_exe().map_err(|e| e.to_string())?;
         path.set_file_name("records");

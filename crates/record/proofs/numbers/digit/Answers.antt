@@ -2,7 +2,6 @@
 use native.Mathlib.Omega.{arith}
 use lib.Dec.{ltb}
 use Rattle.record.proofs.Digits.{tests_out, tests_between, tests_low, letter_small, letter_less, tests_digit}
-use borrow.Author.Rules.{rules}
 use Rattle.record.proofs.numbers.digit.Goals as goal
 
 pub returns-then-b : goal.returns-then-b

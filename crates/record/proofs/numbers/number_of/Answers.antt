@@ -2,10 +2,7 @@
 use native.Mathlib.Omega.{arith}
 use mathlib.Core.Option.{some}
 use Rattle.record.specs.Read.{float_in}
-use Prim.Native.Nat.{◌≤◌, ◌<◌, ◌-◌, ◌^◌}
-use mathlib.Core.Path.{◌≡◌, refl, ap, ◌∙◌}
-use lib.ListN.{length, drop}
-use Rattle.record.specs.Numbers.{digits, value}
+use mathlib.Core.Path.{refl, ap, ◌∙◌}
 use Rattle.record.proofs.Digits.{number_short, number_bad, number_good, hex_fits, hex_room, digits_no, digits_yes, digits_all, value_more, value_all}
 use borrow.Author.Rules.{rules}
 use Rattle.record.proofs.numbers.number_of.Goals as goal

@@ -1,13 +1,8 @@
 -- `record::numbers::number_of`: what its loops keep, and what grows less. Assumes nothing.
-use native.Mathlib.Omega.{arith}
-use mathlib.Core.Option.{some}
-use Rattle.record.specs.Read.{float_in}
 use Prim.Native.Nat.{◌≤◌, ◌<◌, ◌-◌, ◌^◌}
-use mathlib.Core.Path.{◌≡◌, refl, ap, ◌∙◌}
+use mathlib.Core.Path.{◌≡◌}
 use lib.ListN.{length, drop}
 use Rattle.record.specs.Numbers.{digits, value}
-use Rattle.record.proofs.Digits.{number_short, number_bad, number_good, hex_fits, hex_room, digits_no, digits_yes, digits_all, value_more, value_all}
-use borrow.Author.Rules.{rules}
 use Rattle.record.proofs.numbers.number_of.Given as goal
 
 abbrev pub invariant-loop-i : goal.invariant-loop-i

@@ -1,9 +1,7 @@
 -- `record::numbers::whole_of`: the goals that the search leaves. Assumes nothing.
 use borrow.Author.Tests.{not-true, not-false}
-use Prim.Native.Nat.{◌≤◌, ◌-◌, ◌+◌}
-use mathlib.Core.Path.{◌≡◌, refl, sym, ◌∙◌}
-use lib.ListN.{length, drop}
-use Rattle.record.specs.Numbers.{digits, value}
+use Prim.Native.Nat.{◌+◌}
+use mathlib.Core.Path.{refl, sym, ◌∙◌}
 use Rattle.record.specs.Read.{whole_in}
 use Rattle.record.proofs.Digits.{whole_unled, whole_bad, whole_large, whole_good, digits_no, digits_yes, digits_all, value_more, value_all}
 use borrow.Author.Rules.{rules}

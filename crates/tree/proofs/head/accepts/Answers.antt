@@ -4,7 +4,6 @@ use mathlib.Core.List.{[], ◌∷◌}
 use Rattle.model.specs.Boxes.{acceptable, side}
 use Rattle.trees.proofs.Areas.{accept_more, accept_last}
 use Rattle.tree.specs.Depths.{sides}
-use borrow.Author.Rules.{rules}
 use Rattle.tree.proofs.head.accepts.Goals as goal
 
 pub returns-then-deep : goal.returns-then-deep

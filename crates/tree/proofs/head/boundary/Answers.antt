@@ -5,7 +5,6 @@ use Rattle.words.specs.Words.{words, pairs}
 use Rattle.trees.specs.Pieces.{boundary_of}
 use Rattle.trees.proofs.Heads.{boundary_is, floats_more}
 use Rattle.tree.specs.Depths.{kind, sides}
-use borrow.Author.Rules.{rules}
 use Rattle.tree.proofs.head.boundary.Goals as goal
 
 pub returns-then-deep : goal.returns-then-deep

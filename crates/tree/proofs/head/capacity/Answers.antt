@@ -2,7 +2,6 @@
 use mathlib.Core.Path.{ap, ◌∙◌}
 use Rattle.words.specs.Words.{words}
 use Rattle.trees.specs.Pieces.{capacity_of}
-use borrow.Author.Rules.{rules}
 use Rattle.tree.proofs.head.capacity.Goals as goal
 
 pub returns : goal.returns

@@ -4,7 +4,6 @@ use Rattle.model.specs.Calls.{octree, quadtree}
 use Rattle.trees.specs.Pieces.{Decides, Fits, pieces}
 use Rattle.trees.proofs.Heads.{measured_as}
 use Rattle.tree.specs.Depths.{kind}
-use borrow.Author.Rules.{rules}
 use Rattle.tree.proofs.head.fits.Goals as goal
 
 pub returns-then-deep : goal.returns-then-deep

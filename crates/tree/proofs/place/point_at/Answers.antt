@@ -6,7 +6,6 @@ use Rattle.words.specs.Words.{words, pairs}
 use Rattle.trees.specs.Points.{point_at}
 use Rattle.trees.proofs.Heads.{floats_more}
 use Rattle.tree.specs.Depths.{kind, place}
-use borrow.Author.Rules.{rules}
 use Rattle.tree.proofs.place.point_at.Goals as goal
 
 pub returns-then-deep : goal.returns-then-deep

@@ -6,7 +6,6 @@ use Rattle.model.specs.Boxes.{route}
 use Rattle.model.specs.Calls.{ways}
 use Rattle.tree.specs.Depths.{kind, place, sides}
 use Rattle.tree.proofs.Depths.{routed}
-use borrow.Author.Rules.{rules}
 use Rattle.tree.proofs.region.child_index.Goals as goal
 
 pub returns-then-deep : goal.returns-then-deep

@@ -2,7 +2,6 @@
 use mathlib.Core.Path.{sym, ap, ap₂, ◌∙◌}
 use Rattle.model.specs.Boxes.{squared}
 use Rattle.tree.specs.Depths.{place}
-use borrow.Author.Rules.{rules}
 use Rattle.tree.proofs.region.distance_sq.Goals as goal
 
 pub returns-then-deep : goal.returns-then-deep

@@ -2,7 +2,6 @@
 use mathlib.Core.Path.{sym, ap, ap₂, ◌∙◌}
 use Rattle.model.specs.Boxes.{meets}
 use Rattle.tree.specs.Depths.{sides}
-use borrow.Author.Rules.{rules}
 use Rattle.tree.proofs.region.intersects.Goals as goal
 
 pub returns-then-deep : goal.returns-then-deep

@@ -1,7 +1,6 @@
 -- `tree::region::kid`: the goals that the search leaves. Assumes nothing.
 use mathlib.Core.Path.{ap, ◌∙◌}
 use Rattle.pool.specs.Writes.{kid}
-use borrow.Author.Rules.{rules}
 use Rattle.tree.proofs.region.kid.Goals as goal
 
 pub returns : goal.returns

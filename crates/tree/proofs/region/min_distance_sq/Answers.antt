@@ -2,7 +2,6 @@
 use mathlib.Core.Path.{sym, ap, ap₂, ◌∙◌}
 use Rattle.model.specs.Boxes.{node_distance}
 use Rattle.tree.specs.Depths.{place, sides}
-use borrow.Author.Rules.{rules}
 use Rattle.tree.proofs.region.min_distance_sq.Goals as goal
 
 pub returns-then-deep : goal.returns-then-deep

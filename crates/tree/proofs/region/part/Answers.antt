@@ -2,7 +2,6 @@
 use mathlib.Core.Path.{◌≡◌, ap, ◌∙◌, subst⁻¹}
 use Rattle.model.specs.Boxes.{part}
 use Rattle.tree.specs.Depths.{sides}
-use borrow.Author.Rules.{rules}
 use Rattle.tree.proofs.region.part.Goals as goal
 
 pub returns-then-deep : goal.returns-then-deep

@@ -3,7 +3,6 @@ use Rattle.tree.specs.Depths.{groups, kind}
 use Rattle.tree.proofs.Depths.{named, regular}
 use Rattle.trees.proofs.Creates.{clears}
 use Rattle.tree.specs.Depths.{kind}
-use borrow.Author.Rules.{rules}
 use Rattle.tree_create.proofs.create.clear.Goals as goal
 
 pub returns : goal.returns

@@ -10,7 +10,6 @@ use Rattle.trees.proofs.Creates.{creates_misfit}
 use Rattle.pieces.proofs.Creations.{creates_made, creates_refused}
 use Rattle.tree.specs.Depths.{kind}
 use Rattle.tree.proofs.Numbers.{coords_length, coords_numbers}
-use borrow.Author.Rules.{rules}
 use Rattle.tree_create.proofs.create.create.Goals as goal
 
 pub returns-then-not-fits : goal.returns-then-not-fits

@@ -2,7 +2,6 @@
 use mathlib.Core.Path.{subst}
 use Rattle.pool.specs.Meanings.{Empties}
 use Rattle.pool.specs.Writes.{pool}
-use borrow.Author.Rules.{rules}
 use Rattle.tree_create.proofs.create.empty.Goals as goal
 
 pub returns : goal.returns

@@ -3,7 +3,6 @@ use mathlib.Core.Path.{◌≡◌, subst⁻¹}
 use Rattle.words.specs.Words.{words}
 use Rattle.trees.proofs.Puts.{put_end, put_next, put_floats}
 use Rattle.tree.specs.Depths.{coords}
-use borrow.Author.Rules.{rules}
 use Rattle.tree_create.proofs.put.put_floats.Goals as goal
 
 pub returns-then-deep : goal.returns-then-deep

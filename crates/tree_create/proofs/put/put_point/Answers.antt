@@ -1,6 +1,5 @@
 -- `tree_create::put::put_point`: the goals that the search leaves. Assumes nothing.
 use Rattle.tree_create.proofs.Puts.{point_put}
-use borrow.Author.Rules.{rules}
 use Rattle.tree_create.proofs.put.put_point.Goals as goal
 
 pub returns : goal.returns

@@ -1,13 +1,10 @@
 -- `tree_descent::descent::all_go`: the goals that the search leaves. Assumes nothing.
-use mathlib.Core.Path.{◌≡◌, refl, sym, ap, ◌∙◌}
+use mathlib.Core.Path.{refl, sym, ap, ◌∙◌}
 use native.Mathlib.Omega.{arith}
-use Rattle.words.specs.Words.{words}
 use Rattle.words.proofs.Words.{length_words}
 use Rattle.model.specs.Boxes.{route}
-use Rattle.trees.specs.Points.{point_at}
-use Rattle.trees.proofs.Descents.{together, together_end, together_next, together_no, together_stop, together_whole}
-use borrow.Author.Rules.{rules}
-use Rattle.tree.specs.Depths.{kind, sides}
+use Rattle.trees.proofs.Descents.{together_end, together_next, together_no, together_stop, together_whole}
+use Rattle.tree.specs.Depths.{sides}
 use Rattle.tree_descent.proofs.descent.all_go.Goals as goal
 
 pub loop-left-init : goal.loop-left-init

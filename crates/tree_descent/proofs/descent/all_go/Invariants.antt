@@ -1,12 +1,9 @@
 -- `tree_descent::descent::all_go`: what its loops keep, and what grows less. Assumes nothing.
-use mathlib.Core.Path.{◌≡◌, refl, sym, ap, ◌∙◌}
-use native.Mathlib.Omega.{arith}
+use mathlib.Core.Path.{◌≡◌}
 use Rattle.words.specs.Words.{words}
-use Rattle.words.proofs.Words.{length_words}
 use Rattle.model.specs.Boxes.{route}
 use Rattle.trees.specs.Points.{point_at}
-use Rattle.trees.proofs.Descents.{together, together_end, together_next, together_no, together_stop, together_whole}
-use borrow.Author.Rules.{rules}
+use Rattle.trees.proofs.Descents.{together}
 use Rattle.tree.specs.Depths.{kind, sides}
 use Rattle.tree_descent.proofs.descent.all_go.Given as goal
 

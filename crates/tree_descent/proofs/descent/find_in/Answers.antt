@@ -1,14 +1,8 @@
 -- `tree_descent::descent::find_in`: the goals that the search leaves. Assumes nothing.
-use mathlib.Core.Path.{◌≡◌, refl, sym, ◌∙◌}
+use mathlib.Core.Path.{refl, sym, ◌∙◌}
 use native.Mathlib.Omega.{arith}
-use Rattle.words.specs.Words.{words}
 use Rattle.words.proofs.Words.{length_words}
-use Rattle.model.specs.Trees.{same}
-use Rattle.pool.specs.Read.{chain}
-use Rattle.trees.specs.Points.{point_at}
-use Rattle.trees.proofs.Finds.{seek, seek_end, seek_hit, seek_next, seek_stop, seek_whole}
-use borrow.Author.Rules.{rules}
-use Rattle.tree.specs.Depths.{kind, place}
+use Rattle.trees.proofs.Finds.{seek_end, seek_hit, seek_next, seek_stop, seek_whole}
 use Rattle.tree_descent.proofs.descent.find_in.Goals as goal
 
 pub loop-left-init : goal.loop-left-init

@@ -1,10 +1,6 @@
 -- `tree_descent::descent::leaf_of`: the goals that the search leaves. Assumes nothing.
 use native.Mathlib.Omega.{arith}
-use Rattle.words.specs.Words.{words}
-use Rattle.trees.proofs.Ways.{Going, going_down, going_here, going_last, going_start}
-use borrow.Author.Rules.{rules}
-use Rattle.tree.specs.Depths.{kind, place, sides}
-use Rattle.model.specs.Calls.{ways}
+use Rattle.trees.proofs.Ways.{going_down, going_here, going_last, going_start}
 use Rattle.tree_descent.proofs.descent.leaf_of.Goals as goal
 
 pub loop-left-init : goal.loop-left-init

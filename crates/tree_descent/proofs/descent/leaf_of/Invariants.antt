@@ -1,8 +1,6 @@
 -- `tree_descent::descent::leaf_of`: what its loops keep, and what grows less. Assumes nothing.
-use native.Mathlib.Omega.{arith}
 use Rattle.words.specs.Words.{words}
-use Rattle.trees.proofs.Ways.{Going, going_down, going_here, going_last, going_start}
-use borrow.Author.Rules.{rules}
+use Rattle.trees.proofs.Ways.{Going}
 use Rattle.tree.specs.Depths.{kind, place, sides}
 use Rattle.model.specs.Calls.{ways}
 use Rattle.tree_descent.proofs.descent.leaf_of.Given as goal

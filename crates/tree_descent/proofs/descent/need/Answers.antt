@@ -1,13 +1,8 @@
 -- `tree_descent::descent::need`: the goals that the search leaves. Assumes nothing.
-use mathlib.Core.Path.{◌≡◌, refl}
-use Prim.Native.Nat.{◌+◌}
+use mathlib.Core.Path.{refl}
 use native.Mathlib.Omega.{arith}
-use Rattle.words.specs.Words.{words}
-use Rattle.trees.specs.Points.{point_at}
 use Rattle.trees.proofs.Collects.{said_no, said_yes}
-use Rattle.trees.proofs.Descents.{Counting, counting_apart, counting_end, counting_on, counting_start, needs_room}
-use borrow.Author.Rules.{rules}
-use Rattle.tree.specs.Depths.{kind, place, sides}
+use Rattle.trees.proofs.Descents.{counting_apart, counting_end, counting_on, counting_start, needs_room}
 use Rattle.tree_descent.proofs.descent.need.Goals as goal
 
 pub returns-then-n-capacity : goal.returns-then-n-capacity

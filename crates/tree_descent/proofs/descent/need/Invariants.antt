@@ -1,12 +1,9 @@
 -- `tree_descent::descent::need`: what its loops keep, and what grows less. Assumes nothing.
-use mathlib.Core.Path.{◌≡◌, refl}
+use mathlib.Core.Path.{◌≡◌}
 use Prim.Native.Nat.{◌+◌}
-use native.Mathlib.Omega.{arith}
 use Rattle.words.specs.Words.{words}
 use Rattle.trees.specs.Points.{point_at}
-use Rattle.trees.proofs.Collects.{said_no, said_yes}
-use Rattle.trees.proofs.Descents.{Counting, counting_apart, counting_end, counting_on, counting_start, needs_room}
-use borrow.Author.Rules.{rules}
+use Rattle.trees.proofs.Descents.{Counting}
 use Rattle.tree.specs.Depths.{kind, place, sides}
 use Rattle.tree_descent.proofs.descent.need.Given as goal
 

@@ -3,7 +3,6 @@ use mathlib.Core.Path.{ap, ◌∙◌}
 use Rattle.words.specs.Words.{words}
 use Rattle.trees.specs.Points.{point_at}
 use Rattle.trees.proofs.Finds.{same_here, same_other}
-use borrow.Author.Rules.{rules}
 use Rattle.tree_descent.proofs.descent.same_at.Goals as goal
 
 pub returns-then-payload-mark : goal.returns-then-payload-mark

@@ -5,8 +5,6 @@ use Rattle.words.proofs.Words.{length_words}
 use Rattle.model.specs.Boxes.{route}
 use Rattle.tree.specs.Depths.{sides}
 use Rattle.trees.proofs.Inserts.{fills_last, fills_room, fills_split}
-use borrow.Author.Rules.{rules}
-use Prim.Native.Nat.{ℕ, ◌<◌}
 use Rattle.tree_descent.proofs.insert.+insert_within.Goals as goal
 
 pub returns-then-levels-eq0 : goal.returns-then-levels-eq0

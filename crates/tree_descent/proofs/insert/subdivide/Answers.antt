@@ -3,7 +3,6 @@ use mathlib.Core.Path.{sym, ◌∙◌}
 use Rattle.tree.proofs.Depths.{all_ways, parts_as}
 use lib.ListN.{replicate}
 use Rattle.trees.proofs.Turns.{parts}
-use borrow.Author.Rules.{rules}
 use Rattle.tree_descent.proofs.insert.subdivide.Goals as goal
 
 pub returns : goal.returns

@@ -1,13 +1,10 @@
 -- `tree_descent::insert::turns_of`: the goals that the search leaves. Assumes nothing.
 use mathlib.Core.Path.{ap, ◌∙◌}
 use native.Mathlib.Omega.{arith}
-use Rattle.words.specs.Words.{words}
 use Rattle.words.proofs.Words.{length_words}
 use Rattle.model.specs.Boxes.{route}
-use Rattle.trees.specs.Points.{point_at}
-use Rattle.trees.proofs.Turns.{Turning, turning_start, turning_step, turning_stop, turning_end}
-use borrow.Author.Rules.{rules}
-use Rattle.tree.specs.Depths.{kind, sides}
+use Rattle.trees.proofs.Turns.{turning_start, turning_step, turning_stop, turning_end}
+use Rattle.tree.specs.Depths.{sides}
 use Rattle.tree_descent.proofs.insert.turns_of.Goals as goal
 
 pub loop-left-init : goal.loop-left-init

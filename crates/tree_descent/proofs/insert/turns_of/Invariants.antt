@@ -1,12 +1,8 @@
 -- `tree_descent::insert::turns_of`: what its loops keep, and what grows less. Assumes nothing.
-use mathlib.Core.Path.{ap, ◌∙◌}
-use native.Mathlib.Omega.{arith}
 use Rattle.words.specs.Words.{words}
-use Rattle.words.proofs.Words.{length_words}
 use Rattle.model.specs.Boxes.{route}
 use Rattle.trees.specs.Points.{point_at}
-use Rattle.trees.proofs.Turns.{Turning, turning_start, turning_step, turning_stop, turning_end}
-use borrow.Author.Rules.{rules}
+use Rattle.trees.proofs.Turns.{Turning}
 use Rattle.tree.specs.Depths.{kind, sides}
 use Rattle.tree_descent.proofs.insert.turns_of.Given as goal
 

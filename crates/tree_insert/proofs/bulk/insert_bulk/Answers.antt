@@ -1,12 +1,7 @@
 -- `tree_insert::bulk::insert_bulk`: the goals that the search leaves. Assumes nothing.
-use borrow.Author.Rules.{rules}
-use mathlib.Core.Path.{◌≡◌, refl, ◌∙◌}
-use Prim.Native.Nat.{◌≤◌, ◌-◌}
+use mathlib.Core.Path.{refl, ◌∙◌}
 use native.Mathlib.Omega.{arith}
-use lib.ListN.{length, drop}
-use Rattle.trees.specs.Pieces.{lent, pieces}
-use Rattle.trees.proofs.Bulks.{Bulking, bulk_end, bulk_next, bulk_stop, bulking_start}
-use Rattle.tree.specs.Depths.{kind}
+use Rattle.trees.proofs.Bulks.{bulk_end, bulk_next, bulk_stop, bulking_start}
 use Rattle.tree_insert.proofs.bulk.insert_bulk.Goals as goal
 
 pub loop-i-init : goal.loop-i-init

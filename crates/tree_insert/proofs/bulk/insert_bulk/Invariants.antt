@@ -1,11 +1,9 @@
 -- `tree_insert::bulk::insert_bulk`: what its loops keep, and what grows less. Assumes nothing.
-use borrow.Author.Rules.{rules}
-use mathlib.Core.Path.{◌≡◌, refl, ◌∙◌}
+use mathlib.Core.Path.{◌≡◌}
 use Prim.Native.Nat.{◌≤◌, ◌-◌}
-use native.Mathlib.Omega.{arith}
 use lib.ListN.{length, drop}
 use Rattle.trees.specs.Pieces.{lent, pieces}
-use Rattle.trees.proofs.Bulks.{Bulking, bulk_end, bulk_next, bulk_stop, bulking_start}
+use Rattle.trees.proofs.Bulks.{Bulking}
 use Rattle.tree.specs.Depths.{kind}
 use Rattle.tree_insert.proofs.bulk.insert_bulk.Given as goal
 

@@ -1,7 +1,6 @@
 -- `tree_insert::bulk::lent_count`: the goals that the search leaves. Assumes nothing.
 use mathlib.Core.Path.{ap, ◌∙◌}
 use Rattle.trees.specs.Pieces.{room_for}
-use borrow.Author.Rules.{rules}
 use Rattle.tree_insert.proofs.bulk.lent_count.Goals as goal
 
 pub returns : goal.returns

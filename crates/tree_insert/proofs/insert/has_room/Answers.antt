@@ -3,7 +3,6 @@ use mathlib.Core.Path.{subst}
 use Rattle.words.specs.Words.{words}
 use Rattle.pool.specs.Meanings.{Tells}
 use Rattle.trees.proofs.Changes.{rooms}
-use borrow.Author.Rules.{rules}
 use Rattle.tree_insert.proofs.insert.has_room.Goals as goal
 
 pub returns : goal.returns

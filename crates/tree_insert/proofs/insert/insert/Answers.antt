@@ -10,7 +10,6 @@ use Rattle.trees.proofs.Changes.{inserts_crowded, inserts_done, inserts_full, in
 use Rattle.trees.proofs.Ways.{path_is}
 use Rattle.tree.specs.Depths.{kind}
 use Rattle.tree.proofs.Numbers.{coords_numbers}
-use borrow.Author.Rules.{rules}
 use Rattle.tree_insert.proofs.insert.insert.Goals as goal
 
 pub returns-then-not-contains : goal.returns-then-not-contains

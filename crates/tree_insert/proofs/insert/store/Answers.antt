@@ -5,7 +5,6 @@ use lib.Dec.{T}
 use Rattle.trees.proofs.Changes.{stores}
 use Rattle.trees.proofs.Ways.{counted_all}
 use Rattle.tree.proofs.Numbers.{coords_length, coords_numbers}
-use borrow.Author.Rules.{rules}
 use Rattle.tree_insert.proofs.insert.store.Goals as goal
 
 pub returns : goal.returns

@@ -4,9 +4,8 @@ use lib.Dec.{T}
 use Rattle.trees.specs.Pieces.{pieces}
 use Rattle.trees.proofs.Collects.{said_no, said_yes}
 use Rattle.trees.proofs.Queries.{contains_no, contains_outside, contains_yes}
-use Rattle.tree.specs.Depths.{coords, kind, place, sides}
+use Rattle.tree.specs.Depths.{coords, kind, sides}
 use Rattle.tree.proofs.Numbers.{coords_numbers}
-use borrow.Author.Rules.{rules}
 use Rattle.tree_queries.proofs.ask.contains.Goals as goal
 
 pub returns-then-not-contains : goal.returns-then-not-contains

@@ -3,7 +3,6 @@ use Prim.Native.Nat.{min}
 use lib.ListN.{take}
 use Rattle.words.specs.Words.{words}
 use Rattle.tree_queries.proofs.Handed.{handed_as}
-use borrow.Author.Rules.{rules}
 use Rattle.tree_queries.proofs.search.hand_over.Goals as goal
 
 pub returns : goal.returns

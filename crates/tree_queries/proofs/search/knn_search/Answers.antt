@@ -5,7 +5,6 @@ use Rattle.trees.specs.Pieces.{pieces, room_for}
 use Rattle.trees.proofs.Queries.{nearest_given, nearest_nothing}
 use Rattle.tree.specs.Depths.{coords, kind}
 use Rattle.tree.proofs.Numbers.{coords_length, coords_numbers}
-use borrow.Author.Rules.{rules}
 use Rattle.tree_queries.proofs.search.knn_search.Goals as goal
 
 pub returns-then-k-eq0 : goal.returns-then-k-eq0

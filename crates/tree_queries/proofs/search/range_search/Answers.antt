@@ -6,7 +6,6 @@ use Rattle.trees.specs.Pieces.{pieces, room_for}
 use Rattle.trees.proofs.Queries.{radius_given, radius_nothing}
 use Rattle.tree.specs.Depths.{coords, kind}
 use Rattle.tree.proofs.Numbers.{coords_length, coords_numbers}
-use borrow.Author.Rules.{rules}
 use Rattle.tree_queries.proofs.search.range_search.Goals as goal
 
 pub returns-then-radius : goal.returns-then-radius

@@ -5,7 +5,6 @@ use Rattle.trees.specs.Pieces.{pieces, room_for}
 use Rattle.trees.proofs.Queries.{box_given}
 use Rattle.tree.specs.Depths.{kind, region}
 use Rattle.tree.proofs.Numbers.{region_numbers}
-use borrow.Author.Rules.{rules}
 use Rattle.tree_queries.proofs.search.range_search_bbox.Goals as goal
 
 pub returns : goal.returns

@@ -1,14 +1,10 @@
 -- `tree_search::nearest::knn_search_helper`: what its loops keep, and what grows less. Assumes nothing.
 use Rattle.model.specs.Calls.{ways}
 use Prim.Native.Nat.{◌-◌, ◌≤◌}
-use native.Mathlib.Omega.{arith}
 use Rattle.words.specs.Words.{words}
 use Rattle.tree.specs.Depths.{kind, place, sides}
 use Rattle.trees.specs.Points.{point_at}
-use Rattle.tree.proofs.Depths.{most_ways}
-use Rattle.trees.proofs.Tables.{order_entry, Nexts, seeks_list, seeks_none, nexts_start, nexts_step, nexts_skip, nexts_end, order_length}
-use borrow.Author.Rules.{rules}
-use Prim.Native.Nat.{ℕ, ◌<◌}
+use Rattle.trees.proofs.Tables.{Nexts}
 use Rattle.tree_search.proofs.nearest.+knn_search_helper.Given as goal
 
 abbrev pub decreases-knn_search_helper : goal.decreases-knn_search_helper

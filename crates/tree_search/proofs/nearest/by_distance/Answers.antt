@@ -6,7 +6,6 @@ use Rattle.trees.proofs.Collects.{said_no, said_yes}
 use Rattle.trees.proofs.Tables.{nears_more, nears_none, ordered_all}
 use Rattle.tree.specs.Depths.{place, sides}
 use Rattle.tree.proofs.Depths.{ordered_deep, ordered_flat}
-use borrow.Author.Rules.{rules}
 use Rattle.tree_search.proofs.nearest.by_distance.Goals as goal
 
 pub returns-then-not-deep : goal.returns-then-not-deep

@@ -2,7 +2,6 @@
 use mathlib.Core.Path.{ap, ◌∙◌}
 use Rattle.model.specs.Boxes.{node_distance}
 use Rattle.tree.specs.Depths.{place}
-use borrow.Author.Rules.{rules}
 use Rattle.tree_search.proofs.nearest.near.Goals as goal
 
 pub returns : goal.returns

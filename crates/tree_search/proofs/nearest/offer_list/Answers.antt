@@ -3,15 +3,11 @@ use mathlib.Core.Path.{ap, ◌∙◌}
 use mathlib.Core.List.{List}
 use native.Mathlib.Omega.{arith}
 use lib.Ieee.{Float}
-use Rattle.words.specs.Words.{words}
 use Rattle.words.proofs.Words.{length_words}
 use Rattle.model.specs.Boxes.{squared}
 use Rattle.knn.specs.Candidates.{at}
-use Rattle.trees.specs.Points.{point_at}
-use Rattle.trees.proofs.Seeks.{candidate}
-use Rattle.trees.proofs.Tables.{Offering, offering_start, offering_step, offering_stop, offering_end}
-use borrow.Author.Rules.{rules}
-use Rattle.tree.specs.Depths.{kind, place}
+use Rattle.trees.proofs.Tables.{offering_start, offering_step, offering_stop, offering_end}
+use Rattle.tree.specs.Depths.{place}
 use Rattle.tree_search.proofs.nearest.offer_list.Goals as goal
 
 pub loop-left-init : goal.loop-left-init

@@ -1,16 +1,7 @@
 -- `tree_search::search::collect_within`: the goals that the search leaves. Assumes nothing.
-use Rattle.model.specs.Calls.{ways}
-use mathlib.Core.Path.{◌≡◌, refl, ◌∙◌}
-use Prim.Native.Nat.{◌-◌, ◌≤◌}
+use mathlib.Core.Path.{refl, ◌∙◌}
 use native.Mathlib.Omega.{arith}
-use lib.ListN.{length}
-use Rattle.words.specs.Words.{words}
-use Rattle.tree.specs.Depths.{kind, sides}
-use Rattle.trees.specs.Points.{point_at}
-use Rattle.trees.proofs.Collects.{Rows, collects_skip, collects_list, collects_none, rows_start, rows_step, rows_end, said_no, said_yes}
-use Rattle.tree_search.specs.Questions.{meets, takes}
-use borrow.Author.Rules.{rules}
-use Prim.Native.Nat.{ℕ, ◌<◌}
+use Rattle.trees.proofs.Collects.{collects_skip, collects_list, collects_none, rows_start, rows_step, rows_end, said_no, said_yes}
 use Rattle.tree_search.proofs.search.+collect_within.Goals as goal
 
 pub returns-then-k-eq0 : goal.returns-then-k-eq0

@@ -1,16 +1,13 @@
 -- `tree_search::search::collect_within`: what its loops keep, and what grows less. Assumes nothing.
 use Rattle.model.specs.Calls.{ways}
-use mathlib.Core.Path.{◌≡◌, refl, ◌∙◌}
+use mathlib.Core.Path.{◌≡◌}
 use Prim.Native.Nat.{◌-◌, ◌≤◌}
-use native.Mathlib.Omega.{arith}
 use lib.ListN.{length}
 use Rattle.words.specs.Words.{words}
 use Rattle.tree.specs.Depths.{kind, sides}
 use Rattle.trees.specs.Points.{point_at}
-use Rattle.trees.proofs.Collects.{Rows, collects_skip, collects_list, collects_none, rows_start, rows_step, rows_end, said_no, said_yes}
+use Rattle.trees.proofs.Collects.{Rows}
 use Rattle.tree_search.specs.Questions.{meets, takes}
-use borrow.Author.Rules.{rules}
-use Prim.Native.Nat.{ℕ, ◌<◌}
 use Rattle.tree_search.proofs.search.+collect_within.Given as goal
 
 abbrev pub decreases-collect_within : goal.decreases-collect_within

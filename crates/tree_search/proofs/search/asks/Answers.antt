@@ -4,7 +4,6 @@ use lib.Ieee.{Float, le}
 use Rattle.tree_search.specs.declared.search.Question.{Question}
 use Rattle.tree_search.specs.Questions.{takes}
 use Rattle.tree.specs.Depths.{place}
-use borrow.Author.Rules.{rules}
 use Rattle.tree_search.proofs.search.asks.Goals as goal
 
 pub returns-in-Radius : goal.returns-in-Radius

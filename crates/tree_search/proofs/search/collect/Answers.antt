@@ -1,6 +1,5 @@
 -- `tree_search::search::collect`: the goals that the search leaves. Assumes nothing.
 use Rattle.trees.proofs.Collects.{collects_skip, said_no, said_yes}
-use borrow.Author.Rules.{rules}
 use Rattle.tree_search.proofs.search.collect.Goals as goal
 
 pub returns-then-not-reaches : goal.returns-then-not-reaches

@@ -1,13 +1,9 @@
 -- `tree_search::search::collect_list`: the goals that the search leaves. Assumes nothing.
 use mathlib.Core.Path.{ap, ◌∙◌}
 use native.Mathlib.Omega.{arith}
-use Rattle.words.specs.Words.{words}
 use Rattle.words.proofs.Words.{length_words}
-use Rattle.trees.specs.Points.{point_at}
-use Rattle.trees.proofs.Collects.{Listing, listing_start, listing_step, listing_stop, listing_end}
+use Rattle.trees.proofs.Collects.{listing_start, listing_step, listing_stop, listing_end}
 use Rattle.tree_search.specs.Questions.{takes}
-use borrow.Author.Rules.{rules}
-use Rattle.tree.specs.Depths.{kind}
 use Rattle.tree_search.proofs.search.collect_list.Goals as goal
 
 pub loop-left-init : goal.loop-left-init

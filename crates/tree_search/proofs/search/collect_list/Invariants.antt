@@ -1,12 +1,8 @@
 -- `tree_search::search::collect_list`: what its loops keep, and what grows less. Assumes nothing.
-use mathlib.Core.Path.{ap, ◌∙◌}
-use native.Mathlib.Omega.{arith}
 use Rattle.words.specs.Words.{words}
-use Rattle.words.proofs.Words.{length_words}
 use Rattle.trees.specs.Points.{point_at}
-use Rattle.trees.proofs.Collects.{Listing, listing_start, listing_step, listing_stop, listing_end}
+use Rattle.trees.proofs.Collects.{Listing}
 use Rattle.tree_search.specs.Questions.{takes}
-use borrow.Author.Rules.{rules}
 use Rattle.tree.specs.Depths.{kind}
 use Rattle.tree_search.proofs.search.collect_list.Given as goal
 

@@ -5,7 +5,6 @@ use lib.Ieee.{Float, lt}
 use Rattle.tree_search.specs.declared.search.Question.{Question}
 use Rattle.tree_search.specs.Questions.{meets}
 use Rattle.tree.specs.Depths.{sides}
-use borrow.Author.Rules.{rules}
 use Rattle.tree_search.proofs.search.reaches.Goals as goal
 
 pub returns-in-Radius : goal.returns-in-Radius

@@ -1,6 +1,5 @@
 -- `geometry::plane::Rectangle::child`: the goals that the search leaves. Assumes nothing.
 use mathlib.Core.Path.{refl}
-use borrow.Author.Rules.{rules}
 use Rattle.axis.proofs.Axes.{part_none, part_more}
 use Rattle.geometry.proofs.plane.Rectangle.child.Goals as goal
 

@@ -1,5 +1,4 @@
 -- `geometry::plane::Rectangle::contains`: the goals that the search leaves. Assumes nothing.
-use borrow.Author.Rules.{rules}
 use Rattle.axis.proofs.Axes.{inside_last, inside_more}
 use Rattle.geometry.proofs.plane.Rectangle.contains.Goals as goal
 

@@ -1,5 +1,4 @@
 -- `geometry::plane::Rectangle::intersects`: the goals that the search leaves. Assumes nothing.
-use borrow.Author.Rules.{rules}
 use Rattle.axis.proofs.Axes.{meets_last, meets_more}
 use Rattle.geometry.proofs.plane.Rectangle.intersects.Goals as goal
 

@@ -1,5 +1,4 @@
 -- `geometry::space::Cube::child_index`: the goals that the search leaves. Assumes nothing.
-use borrow.Author.Rules.{rules}
 use Rattle.axis.proofs.Axes.{route_last, route_more}
 use Rattle.geometry.proofs.space.Cube.child_index.Goals as goal
 

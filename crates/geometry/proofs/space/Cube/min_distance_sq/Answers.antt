@@ -1,5 +1,4 @@
 -- `geometry::space::Cube::min_distance_sq`: the goals that the search leaves. Assumes nothing.
-use borrow.Author.Rules.{rules}
 use Rattle.axis.proofs.Axes.{node_is}
 use mathlib.Core.List.{[], ◌∷◌}
 use Rattle.model.specs.Boxes.{added}

@@ -1,0 +1,12 @@
+-- `quadtree::quadtree_insert_bulk`: the goals that the search leaves. Assumes nothing.
+use Rattle.model.specs.Calls.{quadtree}
+use Rattle.trees.specs.Pieces.{pieces}
+use Rattle.tree_sound.proofs.Calls.{does_not, does_held}
+use borrow.Author.Rules.{rules}
+use Rattle.quadtree.proofs.quadtree_insert_bulk.Goals as goal
+
+pub returns-then-not-sound : goal.returns-then-not-sound
+returns-then-not-sound c = does_not quadtree (pieces c.args.head.now c.args.nodes.now c.args.links.now c.args.points.now) _ c.sound.ensures c.if-not-sound.true-raw _ tt
+
+pub returns : goal.returns
+returns c = does_held quadtree (pieces c.args.head.now c.args.nodes.now c.args.links.now c.args.points.now) _ c.sound.ensures c.if-not-sound.false-raw _ _ _ _ c.insert_bulk-done.ensures
