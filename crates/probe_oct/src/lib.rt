@@ -1,5 +1,6 @@
 // C entry points to the octree's calls without the test of soundness, and to the test alone, for the benchmarks.
 #![tactic(auto)]
+
 ghost use Rattle.std.specs.Prelude.{[], ◌∷◌};
 ghost use Rattle.model.specs.Boxes.{side};
 ghost use Rattle.model.specs.Calls.{octree, Insert, Delete, Contains, Radius, Box, Nearest};

@@ -1,5 +1,6 @@
 // A command program over either tree: reads records from standard input and prints their answers.
 #![tactic(auto)]
+
 ghost use Rattle.std.specs.Prelude.{false, ◌≡◌, ◌≤◌, ◌<◌, length};
 ghost use Rattle.model.specs.Calls.{broken};
 ghost use Rattle.trees.specs.Pieces.{pieces};
@@ -34,7 +35,13 @@ fn tell<E: Write>(errors: &mut E, text: &[u8]) {
 }
 
 // Reads, where that comes next, and says how many bytes came: none at the end of the input. There is room for one at least.
-fn fetch<I: Read, E: Write>(deep: bool, next: Next, input: &mut I, errors: &mut E, text: &mut [u8]) -> usize
+fn fetch<I: Read, E: Write>(
+    deep: bool,
+    next: Next,
+    input: &mut I,
+    errors: &mut E,
+    text: &mut [u8],
+) -> usize
     requires { next ≡ next_is.Read → 0 < length text.old }
     ensures { result ≤ length text.old }
 {
@@ -118,7 +125,12 @@ fn take_turns<I: Read, O: Write, E: Write>(
 }
 
 // The command program of either tree, over arrays of its own. Returns the place that was reached.
-pub fn run<I: Read, O: Write, E: Write>(deep: bool, input: &mut I, output: &mut O, errors: &mut E) -> Place
+pub fn run<I: Read, O: Write, E: Write>(
+    deep: bool,
+    input: &mut I,
+    output: &mut O,
+    errors: &mut E,
+) -> Place
     ensures { Ran (kind deep) (says deep) result }
 {
     let mut text: [u8; 65536] = [0; 65536];

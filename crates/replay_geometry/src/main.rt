@@ -1,6 +1,7 @@
 // Answers questions about boxes, one to a line: a word and its numbers, as `span,LO,HI`. Numbers are the 16 hex digits of their bits.
 // A line that is not understood is answered with a question mark.
 #![tactic(auto)]
+
 ghost use Rattle.std.specs.Prelude.{◌+◌, ◌≤◌, ◌<◌, true, ◌≡◌, length, set};
 
 use std::io::{Read, Write};
@@ -50,7 +51,13 @@ fn read_one<I: Read>(input: &mut I, byte: &mut [u8; 1]) -> bool {
 }
 
 // One byte of input: it ends a line, which is answered, or joins it.
-fn step<I: Read, O: Write>(input: &mut I, output: &mut O, line: &mut [u8], len: usize, long: bool) -> Line
+fn step<I: Read, O: Write>(
+    input: &mut I,
+    output: &mut O,
+    line: &mut [u8],
+    len: usize,
+    long: bool,
+) -> Line
     requires { len ≤ length line.old }
     ensures { result.len ≤ length line.new }
 {
