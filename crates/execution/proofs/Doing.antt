@@ -1,18 +1,15 @@
 -- What a command does, from what the calls of a tree promise. Over both trees.
 use Prim.Native.Nat.{ℕ, ◌+◌, ◌≤◌, ◌<◌}
 use mathlib.Core.Path.{◌≡◌, sym, ap, ◌∙◌, subst}
-use mathlib.Core.Bool.{Bool, true, false, cond, not}
-use mathlib.Core.List.{List, [], ◌∷◌}
+use mathlib.Core.Bool.{Bool, true, false}
+use mathlib.Core.List.{List}
 use mathlib.Core.Option.{some}
 use native.Mathlib.Nat.{le_of_eq}
 use native.Mathlib.Omega.{arith}
-use lib.Dec.{T, eqb, leb}
+use lib.Dec.{leb}
 use lib.Ieee.{Float}
 use lib.ListN.{length, get_or}
 use borrow.Author.Tests.{leb-false, leb-true}
-use denote.Enum.Declared
-use mir.Val.{has_key}
-use types.Run.{OneOf, miss}
 use Rattle.model.specs.Calls.{Ask, Box, Nearest, Radius}
 use Rattle.trees.specs.Pieces.{Pieces, SearchesHeld, room_for}
 use Rattle.tree.specs.Depths.{coords, kind, region}
@@ -23,7 +20,6 @@ use Rattle.replies.proofs.Shapes.{box_asked, nearest_asked, radius_asked}
 use Rattle.commands.specs.Commands.{call_in}
 use Rattle.commands.specs.declared.Command.{Command}
 use Rattle.commands.specs.declared.Command.TheVariants as command
-use Rattle.commands.specs.contracts.Command as declared
 
 -- ---- room
 pub has : (deep : Bool) (axes at size : ℕ) (r : Bool) → axes ≡ (kind deep).axes → r ≡ leb (at + longest axes) size → r ≡ true → at + longest (kind deep).axes ≤ size

@@ -2,7 +2,6 @@
 use mathlib.Core.Path.{◌≡◌, subst⁻¹}
 use Rattle.record.specs.Commands.{word_of}
 use Rattle.commands.specs.Commands.{made}
-use borrow.Author.Rules.{rules}
 use Rattle.commands.proofs.first_word.Goals as goal
 
 pub returns-then-deep : goal.returns-then-deep

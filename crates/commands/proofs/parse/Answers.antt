@@ -1,18 +1,13 @@
 -- `commands::parse`: the goals that the search leaves. Assumes nothing.
-use mathlib.Core.Path.{◌≡◌, refl}
-use mathlib.Core.Bool.{Bool}
-use mathlib.Core.List.{List, zip_with}
-use Prim.Native.Nat.{ℕ}
-use lib.Ieee.{Float, nan}
+use mathlib.Core.Path.{refl}
+use mathlib.Core.List.{zip_with}
+use lib.Ieee.{nan}
 use lib.ListN.{get_or}
 use Rattle.record.specs.Commands.{call_of, floats_after}
 use Rattle.record.specs.declared.Word.{Word}
-use Rattle.record.specs.declared.Word.TheVariants as Word
 use Rattle.commands.specs.Commands.{call_in, flattened}
-use Rattle.commands.specs.declared.Command.{Command}
 use Rattle.commands.specs.declared.Command.TheVariants as command
-use Rattle.commands.proofs.Said.{Meant, Right, either, says_none, says_some}
-use borrow.Author.Rules.{rules}
+use Rattle.commands.proofs.Said.{Right, either, says_none, says_some}
 use Rattle.commands.proofs.parse.Goals as goal
 
 pub returns-in_default : goal.returns-in_default

@@ -6,7 +6,6 @@ use Rattle.tree.specs.Depths.{kind}
 use Rattle.replies.proofs.Answers.{answers_as, answers_bad}
 use Rattle.commands.specs.Commands.{call_in}
 use Rattle.execution.proofs.Doing.{has, lacks}
-use borrow.Author.Rules.{rules}
 use Rattle.execution.proofs.answer.Goals as goal
 
 pub returns-then-not-has_room : goal.returns-then-not-has_room

@@ -6,7 +6,6 @@ use Rattle.tree.specs.Depths.{kind}
 use Rattle.replies.specs.Lines.{makes}
 use Rattle.replies.proofs.Answers.{answers_as, answers_change, answers_none, clear_bare, clear_stays}
 use Rattle.commands.specs.Commands.{call_in}
-use borrow.Author.Rules.{rules}
 use Rattle.execution.proofs.clear.Goals as goal
 
 pub returns-then-not-held : goal.returns-then-not-held

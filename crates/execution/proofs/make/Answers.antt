@@ -4,7 +4,6 @@ use native.Mathlib.Omega.{arith}
 use Rattle.tree.specs.Depths.{kind}
 use Rattle.replies.proofs.Answers.{answers_as, answers_create}
 use Rattle.commands.specs.Commands.{call_in}
-use borrow.Author.Rules.{rules}
 use Rattle.execution.proofs.make.Goals as goal
 
 pub returns-in_default : goal.returns-in_default

@@ -8,7 +8,6 @@ use Rattle.replies.specs.Lines.{makes}
 use Rattle.replies.proofs.Answers.{answers_as, answers_none}
 use Rattle.commands.specs.Commands.{call_in}
 use Rattle.execution.proofs.Doing.{radius_done}
-use borrow.Author.Rules.{rules}
 use Rattle.execution.proofs.range.Goals as goal
 
 pub returns-in_default : goal.returns-in_default

@@ -2,7 +2,6 @@
 use Rattle.model.specs.Calls.{octree}
 use Rattle.trees.specs.Pieces.{pieces}
 use Rattle.tree_sound.proofs.Calls.{asks_not, asks_held}
-use borrow.Author.Rules.{rules}
 use Rattle.octree.proofs.octree_contains.Goals as goal
 
 pub returns-then-not-sound : goal.returns-then-not-sound

@@ -1,7 +1,6 @@
 -- `octree::octree_create`: the goals that the search leaves. Assumes nothing.
 use Rattle.model.specs.Calls.{octree}
 use Rattle.trees.proofs.Creates.{creates_does}
-use borrow.Author.Rules.{rules}
 use Rattle.octree.proofs.octree_create.Goals as goal
 
 pub returns : goal.returns

@@ -2,7 +2,6 @@
 use Rattle.model.specs.Calls.{octree}
 use Rattle.trees.specs.Pieces.{pieces}
 use Rattle.tree_sound.proofs.Calls.{does_not, does_held}
-use borrow.Author.Rules.{rules}
 use Rattle.octree.proofs.octree_insert_bulk.Goals as goal
 
 pub returns-then-not-sound : goal.returns-then-not-sound

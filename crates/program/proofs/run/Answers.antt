@@ -1,7 +1,6 @@
 -- `program::run`: the goals that the search leaves. Assumes nothing.
 use native.Mathlib.Omega.{arith}
 use Rattle.program.proofs.Starts.{ran, starts_oct, starts_quad}
-use borrow.Author.Rules.{rules}
 use Rattle.program.proofs.run.Goals as goal
 
 pub take_turns-requires : goal.take_turns-requires

@@ -1,16 +1,13 @@
 -- `program::take_turns`: the goals that the search leaves. Assumes nothing.
-use mathlib.Core.Path.{◌≡◌, ◌∙◌, refl}
-use mathlib.Core.Bool.{true}
+use mathlib.Core.Path.{◌∙◌, refl}
 use native.Mathlib.Omega.{arith}
 use lib.ListN.{length}
 use Rattle.trees.specs.Pieces.{pieces}
 use Rattle.tree.specs.Depths.{kind}
 use Rattle.commands.specs.Commands.{says}
-use Rattle.turns.specs.Places.{Sits, Turned, does_go_on}
 use Rattle.turns.proofs.Working.{begins, begins_on, both, length_rest, sits_again, turned_on}
 use borrow.Rule.Slice.PartMut.{take_put}
 use Prim.Native.Nat.{◌-◌}
-use borrow.Author.Rules.{rules}
 use Rattle.program.proofs.take_turns.Goals as goal
 
 pub loop-turns-init : goal.loop-turns-init

@@ -1,7 +1,6 @@
 -- `quadtree::quadtree_create`: the goals that the search leaves. Assumes nothing.
 use Rattle.model.specs.Calls.{quadtree}
 use Rattle.trees.proofs.Creates.{creates_does}
-use borrow.Author.Rules.{rules}
 use Rattle.quadtree.proofs.quadtree_create.Goals as goal
 
 pub returns : goal.returns

@@ -1,7 +1,6 @@
 -- `replay_geometry::join`: the goals that the search leaves. Assumes nothing.
 use mathlib.Core.Path.{refl}
 use native.Mathlib.Omega.{arith}
-use borrow.Author.Rules.{rules}
 use Rattle.replay_geometry.proofs.join.Goals as goal
 
 pub returns-then-len-line : goal.returns-then-len-line

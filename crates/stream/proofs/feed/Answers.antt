@@ -1,13 +1,9 @@
 -- `stream::feed`: the goals that the search leaves. Assumes nothing.
-use Prim.Native.Nat.{◌-◌}
-use mathlib.Core.Path.{◌∙◌, ◌≡◌, refl}
+use mathlib.Core.Path.{◌∙◌, refl}
 use native.Mathlib.Omega.{arith}
-use lib.ListN.{length}
-use Rattle.trees.specs.Pieces.{pieces}
 use Rattle.tree.specs.Depths.{kind}
 use Rattle.commands.specs.Commands.{says}
-use Rattle.stream.proofs.Feeding.{Feeding, fed_all, fed_full, fed_unended, feeding_less, feeding_start, feeding_step, feeding_within, steps_as}
-use borrow.Author.Rules.{rules}
+use Rattle.stream.proofs.Feeding.{fed_all, fed_full, fed_unended, feeding_less, feeding_start, feeding_step, feeding_within, steps_as}
 use Rattle.stream.proofs.feed.Goals as goal
 
 pub loop-at-init : goal.loop-at-init

@@ -1,13 +1,11 @@
 -- `stream::feed`: what its loops keep, and what grows less. Assumes nothing.
 use Prim.Native.Nat.{◌-◌}
-use mathlib.Core.Path.{◌∙◌, ◌≡◌, refl}
-use native.Mathlib.Omega.{arith}
+use mathlib.Core.Path.{◌≡◌}
 use lib.ListN.{length}
 use Rattle.trees.specs.Pieces.{pieces}
 use Rattle.tree.specs.Depths.{kind}
 use Rattle.commands.specs.Commands.{says}
-use Rattle.stream.proofs.Feeding.{Feeding, fed_all, fed_full, fed_unended, feeding_less, feeding_start, feeding_step, feeding_within, steps_as}
-use borrow.Author.Rules.{rules}
+use Rattle.stream.proofs.Feeding.{Feeding}
 use Rattle.stream.proofs.feed.Given as goal
 
 abbrev pub invariant-loop-at : goal.invariant-loop-at

@@ -5,7 +5,6 @@ use Rattle.commands.specs.Commands.{says}
 use Rattle.execution.proofs.Doing.{has, lacks}
 use Rattle.stream.proofs.Feeding.{steps_full, steps_line, steps_unended}
 use native.Mathlib.Omega.{arith}
-use borrow.Author.Rules.{rules}
 use Rattle.stream.proofs.read_line.Goals as goal
 
 pub returns-then-not-has_room : goal.returns-then-not-has_room

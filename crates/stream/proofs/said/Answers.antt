@@ -2,7 +2,6 @@
 use borrow.Author.Tests.{not-false, not-true}
 use Rattle.record.proofs.Streams.{ended_long, ended_short}
 use Rattle.commands.specs.Commands.{call_in, says}
-use borrow.Author.Rules.{rules}
 use Rattle.stream.proofs.said.Goals as goal
 
 pub returns-then-not-line : goal.returns-then-not-line

@@ -4,7 +4,6 @@ use Rattle.turns.specs.Places.{does_go_on}
 use Rattle.tree.specs.Depths.{kind}
 use Rattle.commands.specs.Commands.{says}
 use Rattle.turns.proofs.Working.{digests_ahead, digests_full, sits_ahead, sits_full}
-use borrow.Author.Rules.{rules}
 use Rattle.turns.proofs.digest.Goals as goal
 
 pub returns-then-s : goal.returns-then-s

@@ -3,7 +3,6 @@ use native.Mathlib.Omega.{arith}
 use Rattle.tree.specs.Depths.{kind}
 use Rattle.commands.specs.Commands.{says}
 use Rattle.turns.proofs.Working.{ends_chunk, ends_done, ends_end, ends_work, sits_end, sits_over, works_chunk, works_end, works_on, works_over}
-use borrow.Author.Rules.{rules}
 use Rattle.turns.proofs.work.Goals as goal
 
 pub returns-then-got-gt0 : goal.returns-then-got-gt0
