@@ -1,15 +1,18 @@
 -- What a command does, from what the calls of a tree promise. Over both trees.
 use Prim.Native.Nat.{ℕ, ◌+◌, ◌≤◌, ◌<◌}
 use mathlib.Core.Path.{◌≡◌, sym, ap, ◌∙◌, subst}
-use mathlib.Core.Bool.{Bool, true, false}
-use mathlib.Core.List.{List}
+use mathlib.Core.Bool.{Bool, true, false, cond, not}
+use mathlib.Core.List.{List, [], ◌∷◌}
 use mathlib.Core.Option.{some}
 use native.Mathlib.Nat.{le_of_eq}
 use native.Mathlib.Omega.{arith}
-use lib.Dec.{leb}
+use lib.Dec.{T, eqb, leb}
 use lib.Ieee.{Float}
 use lib.ListN.{length, get_or}
 use borrow.Author.Tests.{leb-false, leb-true}
+use denote.Enum.Declared
+use mir.Val.{has_key}
+use types.Run.{OneOf, miss}
 use Rattle.model.specs.Calls.{Ask, Box, Nearest, Radius}
 use Rattle.trees.specs.Pieces.{Pieces, SearchesHeld, room_for}
 use Rattle.tree.specs.Depths.{coords, kind, region}
@@ -20,6 +23,19 @@ use Rattle.replies.proofs.Shapes.{box_asked, nearest_asked, radius_asked}
 use Rattle.commands.specs.Commands.{call_in}
 use Rattle.commands.specs.declared.Command.{Command}
 use Rattle.commands.specs.declared.Command.TheVariants as command
+use Rattle.commands.specs.contracts.Command as declared
+
+-- ---- a command is not one of another kind
+abbrev without : ℕ → List ℕ → List ℕ
+without k [] = []
+without k (x ∷ xs) = cond (eqb k x) (without k xs) (x ∷ without k xs)
+
+-- the numbers of all kinds but one
+abbrev others : ℕ → List ℕ
+others k = without k (0 ∷ 1 ∷ 2 ∷ 3 ∷ 4 ∷ 5 ∷ 6 ∷ 7 ∷ 8 ∷ 9 ∷ [])
+
+pub another : (k : ℕ) (c d : Command) → c ≡ d → T (not (has_key (others k) (Declared.tag_of declared.the_type d))) → OneOf (others k) (Declared.tag_of declared.the_type c) → ⊥
+another k c d e h o = miss (others k) (Declared.tag_of declared.the_type d) h (subst (λ (b : Command). OneOf (others k) (Declared.tag_of declared.the_type b)) e o)
 
 -- ---- room
 pub has : (deep : Bool) (axes at size : ℕ) (r : Bool) → axes ≡ (kind deep).axes → r ≡ leb (at + longest axes) size → r ≡ true → at + longest (kind deep).axes ≤ size
