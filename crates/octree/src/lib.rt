@@ -1,5 +1,5 @@
-// The calls of the gateway's host on an octree, as C functions: numbers, and pieces, coordinates and payloads as bytes. Each tests first that the pieces hold a
-// sound tree and answers 8 where they do not; creation asks for their lengths only. The reply is what is returned.
+// The calls of the gateway's host on an octree: numbers, and pieces, coordinates and payloads as bytes. Each tests first that the pieces hold a sound tree and answers 8
+// where they do not; creation asks for their lengths only. The reply is what is returned. `octree_c` exports them to C.
 #![tactic(auto)]
 
 ghost use Rattle.std.specs.Prelude.{[], ◌∷◌};
@@ -13,8 +13,7 @@ use tree_queries::{ask, search};
 use tree_sound::sound;
 
 // An empty tree with this boundary and capacity.
-#[unsafe(no_mangle)]
-pub extern "C" fn octree_create(
+pub fn octree_create(
     head: &mut [u8],
     nodes: &mut [u8],
     links: &mut [u8],
@@ -35,8 +34,7 @@ pub extern "C" fn octree_create(
 }
 
 // Stores a point.
-#[unsafe(no_mangle)]
-pub extern "C" fn octree_insert(
+pub fn octree_insert(
     head: &[u8],
     nodes: &mut [u8],
     links: &mut [u8],
@@ -55,8 +53,7 @@ pub extern "C" fn octree_insert(
 }
 
 // Stores many points: as many as both slices hold. How many were stored is handed over.
-#[unsafe(no_mangle)]
-pub extern "C" fn octree_insert_bulk(
+pub fn octree_insert_bulk(
     head: &[u8],
     nodes: &mut [u8],
     links: &mut [u8],
@@ -77,8 +74,7 @@ pub extern "C" fn octree_insert_bulk(
 }
 
 // Takes the first equal point out.
-#[unsafe(no_mangle)]
-pub extern "C" fn octree_delete(
+pub fn octree_delete(
     head: &[u8],
     nodes: &mut [u8],
     links: &mut [u8],
@@ -97,13 +93,7 @@ pub extern "C" fn octree_delete(
 }
 
 // Leaves one empty root, with boundary and capacity as they were.
-#[unsafe(no_mangle)]
-pub extern "C" fn octree_clear(
-    head: &[u8],
-    nodes: &mut [u8],
-    links: &mut [u8],
-    points: &[u8],
-) -> u32
+pub fn octree_clear(head: &[u8], nodes: &mut [u8], links: &mut [u8], points: &[u8]) -> u32
     ensures { Does octree Clear (pieces head.now nodes.old links.old points.now) (pieces head.now nodes.new links.new points.now) result 0 }
 {
     if !sound(true, head, nodes, links, points) {
@@ -113,8 +103,7 @@ pub extern "C" fn octree_clear(
 }
 
 // Whether an equal point is held: 1 or 0 is handed over.
-#[unsafe(no_mangle)]
-pub extern "C" fn octree_contains(
+pub fn octree_contains(
     head: &[u8],
     nodes: &[u8],
     links: &[u8],
@@ -136,14 +125,7 @@ pub extern "C" fn octree_contains(
 }
 
 // How many points are held.
-#[unsafe(no_mangle)]
-pub extern "C" fn octree_len(
-    head: &[u8],
-    nodes: &[u8],
-    links: &[u8],
-    points: &[u8],
-    count: &mut u32,
-) -> u32
+pub fn octree_len(head: &[u8], nodes: &[u8], links: &[u8], points: &[u8], count: &mut u32) -> u32
     ensures { Asks octree Len (pieces head.now nodes.now links.now points.now) result count.new }
 {
     if !sound(true, head, nodes, links, points) {
@@ -155,14 +137,7 @@ pub extern "C" fn octree_len(
 }
 
 // Whether no point is held: 1 or 0 is handed over.
-#[unsafe(no_mangle)]
-pub extern "C" fn octree_is_empty(
-    head: &[u8],
-    nodes: &[u8],
-    links: &[u8],
-    points: &[u8],
-    yes: &mut u32,
-) -> u32
+pub fn octree_is_empty(head: &[u8], nodes: &[u8], links: &[u8], points: &[u8], yes: &mut u32) -> u32
     ensures { Asks octree IsEmpty (pieces head.now nodes.now links.now points.now) result yes.new }
 {
     if !sound(true, head, nodes, links, points) {
@@ -174,8 +149,7 @@ pub extern "C" fn octree_is_empty(
 }
 
 // The points within a radius.
-#[unsafe(no_mangle)]
-pub extern "C" fn octree_range_search(
+pub fn octree_range_search(
     head: &[u8],
     nodes: &[u8],
     links: &[u8],
@@ -202,8 +176,7 @@ pub extern "C" fn octree_range_search(
 }
 
 // The points in a box.
-#[unsafe(no_mangle)]
-pub extern "C" fn octree_range_search_bbox(
+pub fn octree_range_search_bbox(
     head: &[u8],
     nodes: &[u8],
     links: &[u8],
@@ -232,8 +205,7 @@ pub extern "C" fn octree_range_search_bbox(
 }
 
 // The k nearest points.
-#[unsafe(no_mangle)]
-pub extern "C" fn octree_knn_search(
+pub fn octree_knn_search(
     head: &[u8],
     nodes: &[u8],
     links: &[u8],

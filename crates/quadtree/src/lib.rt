@@ -1,5 +1,5 @@
-// The calls of the gateway's host on a quadtree, as C functions: numbers, and pieces, coordinates and payloads as bytes. Each tests first that the pieces hold a
-// sound tree and answers 8 where they do not; creation asks for their lengths only. The reply is what is returned.
+// The calls of the gateway's host on a quadtree: numbers, and pieces, coordinates and payloads as bytes. Each tests first that the pieces hold a sound tree and answers 8
+// where they do not; creation asks for their lengths only. The reply is what is returned. `quadtree_c` exports them to C.
 #![tactic(auto)]
 
 ghost use Rattle.std.specs.Prelude.{[], ◌∷◌};
@@ -13,8 +13,7 @@ use tree_queries::{ask, search};
 use tree_sound::sound;
 
 // An empty tree with this boundary and capacity.
-#[unsafe(no_mangle)]
-pub extern "C" fn quadtree_create(
+pub fn quadtree_create(
     head: &mut [u8],
     nodes: &mut [u8],
     links: &mut [u8],
@@ -33,8 +32,7 @@ pub extern "C" fn quadtree_create(
 }
 
 // Stores a point.
-#[unsafe(no_mangle)]
-pub extern "C" fn quadtree_insert(
+pub fn quadtree_insert(
     head: &[u8],
     nodes: &mut [u8],
     links: &mut [u8],
@@ -52,8 +50,7 @@ pub extern "C" fn quadtree_insert(
 }
 
 // Stores many points: as many as both slices hold. How many were stored is handed over.
-#[unsafe(no_mangle)]
-pub extern "C" fn quadtree_insert_bulk(
+pub fn quadtree_insert_bulk(
     head: &[u8],
     nodes: &mut [u8],
     links: &mut [u8],
@@ -74,8 +71,7 @@ pub extern "C" fn quadtree_insert_bulk(
 }
 
 // Takes the first equal point out.
-#[unsafe(no_mangle)]
-pub extern "C" fn quadtree_delete(
+pub fn quadtree_delete(
     head: &[u8],
     nodes: &mut [u8],
     links: &mut [u8],
@@ -93,13 +89,7 @@ pub extern "C" fn quadtree_delete(
 }
 
 // Leaves one empty root, with boundary and capacity as they were.
-#[unsafe(no_mangle)]
-pub extern "C" fn quadtree_clear(
-    head: &[u8],
-    nodes: &mut [u8],
-    links: &mut [u8],
-    points: &[u8],
-) -> u32
+pub fn quadtree_clear(head: &[u8], nodes: &mut [u8], links: &mut [u8], points: &[u8]) -> u32
     ensures { Does quadtree Clear (pieces head.now nodes.old links.old points.now) (pieces head.now nodes.new links.new points.now) result 0 }
 {
     if !sound(false, head, nodes, links, points) {
@@ -109,8 +99,7 @@ pub extern "C" fn quadtree_clear(
 }
 
 // Whether an equal point is held: 1 or 0 is handed over.
-#[unsafe(no_mangle)]
-pub extern "C" fn quadtree_contains(
+pub fn quadtree_contains(
     head: &[u8],
     nodes: &[u8],
     links: &[u8],
@@ -131,14 +120,7 @@ pub extern "C" fn quadtree_contains(
 }
 
 // How many points are held.
-#[unsafe(no_mangle)]
-pub extern "C" fn quadtree_len(
-    head: &[u8],
-    nodes: &[u8],
-    links: &[u8],
-    points: &[u8],
-    count: &mut u32,
-) -> u32
+pub fn quadtree_len(head: &[u8], nodes: &[u8], links: &[u8], points: &[u8], count: &mut u32) -> u32
     ensures { Asks quadtree Len (pieces head.now nodes.now links.now points.now) result count.new }
 {
     if !sound(false, head, nodes, links, points) {
@@ -150,8 +132,7 @@ pub extern "C" fn quadtree_len(
 }
 
 // Whether no point is held: 1 or 0 is handed over.
-#[unsafe(no_mangle)]
-pub extern "C" fn quadtree_is_empty(
+pub fn quadtree_is_empty(
     head: &[u8],
     nodes: &[u8],
     links: &[u8],
@@ -169,8 +150,7 @@ pub extern "C" fn quadtree_is_empty(
 }
 
 // The points within a radius.
-#[unsafe(no_mangle)]
-pub extern "C" fn quadtree_range_search(
+pub fn quadtree_range_search(
     head: &[u8],
     nodes: &[u8],
     links: &[u8],
@@ -196,8 +176,7 @@ pub extern "C" fn quadtree_range_search(
 }
 
 // The points in a box.
-#[unsafe(no_mangle)]
-pub extern "C" fn quadtree_range_search_bbox(
+pub fn quadtree_range_search_bbox(
     head: &[u8],
     nodes: &[u8],
     links: &[u8],
@@ -224,8 +203,7 @@ pub extern "C" fn quadtree_range_search_bbox(
 }
 
 // The k nearest points.
-#[unsafe(no_mangle)]
-pub extern "C" fn quadtree_knn_search(
+pub fn quadtree_knn_search(
     head: &[u8],
     nodes: &[u8],
     links: &[u8],
