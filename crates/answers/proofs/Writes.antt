@@ -3,13 +3,14 @@ use mathlib.Core.Path.{◌≡◌, refl, ap, ap₂, sym, ◌∙◌, subst}
 use mathlib.Core.List.{List, [], ◌∷◌, ◌++◌, map, flatten, append-nil}
 use Prim.Native.Nat.{ℕ, zero, suc, ◌+◌, ◌-◌, ◌*◌, ◌/◌, ◌%◌, ◌<◌, ◌≤◌, min}
 use native.Mathlib.Nat.{div-mul-le_self, div-zero, mul_comm, mul-le-mul_left, mul_left_comm, mul-suc}
-use native.Mathlib.Numerals.{add-one, add-two, add-three, unary_clauses}
+use native.Mathlib.Numerals.{add-one, unary_clauses}
 use native.Mathlib.Omega.{arith}
-use lib.ListN.{length, get_or, set, take, drop, length-map, drop_of_length-le}
-use lib.Seq.{sets, drop-cons, get_or-take, length-take-le, take_all}
+use lib.ListN.{length, get_or, take, drop, length-map, drop_of_length-le}
+use lib.Seq.{sets, drop-cons, length-take-le, take_all}
 use lib.Ieee.{Float, binary64, of_bits, to_bits}
 use borrow.Author.Tests.{le-leb, lt-leb}
 use mathlib.Core.Bool.{Bool, true, false}
+use Rattle.std.specs.Int.{w32, w64, to_le_bytes}
 use Rattle.model.specs.Calls.{Outcome, done, no_room, tree, refuse, search_call, number}
 use Rattle.model.specs.Trees.{Point}
 use Rattle.words.specs.Words.{pairs}
@@ -22,33 +23,24 @@ use Rattle.trees.proofs.Walks.{sets_append}
 use Rattle.trees.specs.Handed.{Handed}
 
 -- ---- numbers
--- four bytes, as the code has their quotients
-pub four : (s : List ℕ) (k v : ℕ) → set (set (set (set s k (v % 256)) (k + 1) (v / 256 % 256)) (k + 2) (v / 256 / 256 % 256)) (k + 3) (v / 256 / 256 / 256 % 256) ≡ sets s k (bytes 4 v)
+-- the bytes that the code writes, low byte first
+pub bytes4_is : (v : ℕ) → to_le_bytes w32 v ≡ bytes 4 v
 unfolding bytes
-four s k v = rw (add-one, add-two, add-three)
+bytes4_is v =
+    let e : v / 65536 % 256 ≡ v / 256 / 256 % 256 = omega arith in
+    let f : v / 16777216 % 256 ≡ v / 256 / 256 / 256 % 256 = omega arith in
+    rw (e, f)
 
--- eight bytes are those of both halves
-halves : (v : ℕ) → bytes 4 (v % 4294967296) ++ bytes 4 (v / 4294967296) ≡ bytes 8 v
+pub bytes8_is : (v : ℕ) → to_le_bytes w64 v ≡ bytes 8 v
 unfolding bytes
-halves v =
-    more {x = v % 4294967296 % 256} {y = v % 256} (omega arith)
-    (more {x = v % 4294967296 / 256 % 256} {y = v / 256 % 256} (omega arith)
-    (more {x = v % 4294967296 / 256 / 256 % 256} {y = v / 256 / 256 % 256} (omega arith)
-    (more {x = v % 4294967296 / 256 / 256 / 256 % 256} {y = v / 256 / 256 / 256 % 256} (omega arith) (ap (bytes 4) high))))
-  where
-    more : {x y : ℕ} {l m : List ℕ} → x ≡ y → l ≡ m → x ∷ l ≡ y ∷ m
-    more e f = ap₂ (λ (a : ℕ) (s : List ℕ). a ∷ s) e f
-
-    high : v / 4294967296 ≡ v / 256 / 256 / 256 / 256
-    high = omega arith
-
-joined : (a b : ℕ) (s : List ℕ) (k : ℕ) → sets s k (bytes 4 a ++ bytes 4 b) ≡ sets (sets s k (bytes 4 a)) (k + 4) (bytes 4 b)
-unfolding bytes
-joined a b s k = sets_append (bytes 4 a) (bytes 4 b) s k
-
-pub eight : (s s1 s2 : List ℕ) (k v u : ℕ) → v ≡ u → s1 ≡ sets s k (bytes 4 (v % 4294967296)) → s2 ≡ sets s1 (k + 4) (bytes 4 (v / 4294967296)) → s2 ≡ sets s k (bytes 8 u)
-eight s s1 s2 k v u ev e1 e2 =
-    e2 ∙ ap (λ (l : List ℕ). sets l (k + 4) (bytes 4 (v / 4294967296))) e1 ∙ sym (joined (v % 4294967296) (v / 4294967296) s k) ∙ ap (sets s k) (halves v ∙ ap (bytes 8) ev)
+bytes8_is v =
+    let e : v / 65536 ≡ v / 256 / 256 = omega arith in
+    let f : v / 16777216 ≡ v / 65536 / 256 = omega arith in
+    let g : v / 4294967296 ≡ v / 16777216 / 256 = omega arith in
+    let h : v / 1099511627776 ≡ v / 4294967296 / 256 = omega arith in
+    let i : v / 281474976710656 ≡ v / 1099511627776 / 256 = omega arith in
+    let j : v / 72057594037927936 ≡ v / 281474976710656 / 256 = omega arith in
+    rw (j, i, h, g, f, e)
 
 -- ---- what is left to write leads to all that is to be written
 pub record Writing (whole start : List ℕ) (k : ℕ) (rest now : List ℕ) (j : ℕ) : Type 0 where
@@ -167,15 +159,15 @@ pub fits_mark : (axes n j L M : ℕ) → n ≤ min (L / (8 * axes)) (M / 4) → 
 fits_mark axes n j L M h l = omega arith
 
 -- the loop over the points: j of them written
-module _ (axes : ℕ) (w found : List ℕ) (n : ℕ) (cs ms : List ℕ) where
+module _ (axes : ℕ) (w found cs ms : List ℕ) where
   abbrev rest : ℕ → List Point
-  rest j = map (point_at axes w) (drop j (take n found))
+  rest j = map (point_at axes w) (drop j found)
 
   abbrev points : List Point
-  points = map (point_at axes w) (take n found)
+  points = map (point_at axes w) found
 
   pub record Answering (cs' ms' : List ℕ) (j : ℕ) : Type 0 where
-    pub few : j ≤ n
+    pub few : j ≤ length found
     pub places : Writing (coordinates points) cs 0 (coordinates (rest j)) cs' (8 * (axes * j))
     pub marks : Writing (payloads points) ms 0 (payloads (rest j)) ms' (4 * j)
 
@@ -186,33 +178,32 @@ module _ (axes : ℕ) (w found : List ℕ) (n : ℕ) (cs ms : List ℕ) where
     marks = writing_start (payloads points) ms 0;
   }
 
-  module _ (len : n ≤ length found) where
-    one_more : (j p : ℕ) → j < n → p ≡ get_or found j 0 → rest j ≡ point_at axes w p ∷ rest (j + 1)
-    one_more j p h e =
-        ap (map (point_at axes w)) (drop-cons (take n found) j 0 (omega (arith, length-take-le n found len)))
-        ∙ ap₂ (λ (q i : ℕ). point_at axes w q ∷ rest i) (get_or-take n found j 0 h ∙ sym e) (sym (add-one j))
+  one_more : (j p : ℕ) → j < length found → p ≡ get_or found j 0 → rest j ≡ point_at axes w p ∷ rest (j + 1)
+  one_more j p h e =
+      ap (map (point_at axes w)) (drop-cons found j 0 h)
+      ∙ ap₂ (λ (q i : ℕ). point_at axes w q ∷ rest i) (sym e) (sym (add-one j))
 
-    no_more : (j : ℕ) → n ≤ j → rest j ≡ []
-    no_more j h = ap (map (point_at axes w)) (drop_of_length-le (take n found) {i = j} (omega (arith, length-take-le n found len)))
+  no_more : (j : ℕ) → length found ≤ j → rest j ≡ []
+  no_more j h = ap (map (point_at axes w)) (drop_of_length-le found {i = j} h)
 
-    pub answering_step : (cs1 ms1 cs2 ms2 : List ℕ) (j p m : ℕ) → Answering cs1 ms1 j → j < n → p ≡ get_or found j 0 → m ≡ (point_at axes w p).payload → length cs2 ≡ length cs1 → cs2 ≡ sets cs1 (8 * (axes * j)) (coordinates (point_at axes w p ∷ []))
-        → length ms2 ≡ length ms1 → ms2 ≡ sets ms1 (4 * j) (bytes 4 m) → Answering cs2 ms2 (j + 1)
-    answering_step cs1 ms1 cs2 ms2 j p m q h ep em lc ec lm es = record {
-      few = omega arith;
-      places = writing_step (coordinates points) cs 0 (float_bytes (point_at axes w p).at) (coordinates (rest (j + 1))) cs1 cs2 (8 * (axes * j)) (8 * (axes * (j + 1)))
-          (subst (λ (l : List ℕ). Writing (coordinates points) cs 0 l cs1 (8 * (axes * j))) (ap coordinates (one_more j p h ep) ∙ places_next (point_at axes w p) (rest (j + 1))) q.places)
-          lc (ec ∙ ap (sets cs1 (8 * (axes * j))) (one_place (point_at axes w p)))
-          (omega (arith, ap (λ (i : ℕ). axes * i) (add-one j), mul-suc axes j, float_bytes_length (point_at axes w p).at, floats_length axes (pairs w) ((axes + 1) * p)));
-      marks = writing_step (payloads points) ms 0 (bytes 4 (point_at axes w p).payload) (payloads (rest (j + 1))) ms1 ms2 (4 * j) (4 * (j + 1))
-          (subst (λ (l : List ℕ). Writing (payloads points) ms 0 l ms1 (4 * j)) (ap payloads (one_more j p h ep) ∙ marks_next (point_at axes w p) (rest (j + 1))) q.marks)
-          lm (es ∙ ap (λ (v : ℕ). sets ms1 (4 * j) (bytes 4 v)) em) (omega (arith, bytes_four (point_at axes w p).payload));
-    }
+  pub answering_step : (cs1 ms1 cs2 ms2 : List ℕ) (j p m : ℕ) → Answering cs1 ms1 j → j < length found → p ≡ get_or found j 0 → m ≡ (point_at axes w p).payload → length cs2 ≡ length cs1 → cs2 ≡ sets cs1 (8 * (axes * j)) (coordinates (point_at axes w p ∷ []))
+      → length ms2 ≡ length ms1 → ms2 ≡ sets ms1 (4 * j) (bytes 4 m) → Answering cs2 ms2 (j + 1)
+  answering_step cs1 ms1 cs2 ms2 j p m q h ep em lc ec lm es = record {
+    few = omega arith;
+    places = writing_step (coordinates points) cs 0 (float_bytes (point_at axes w p).at) (coordinates (rest (j + 1))) cs1 cs2 (8 * (axes * j)) (8 * (axes * (j + 1)))
+        (subst (λ (l : List ℕ). Writing (coordinates points) cs 0 l cs1 (8 * (axes * j))) (ap coordinates (one_more j p h ep) ∙ places_next (point_at axes w p) (rest (j + 1))) q.places)
+        lc (ec ∙ ap (sets cs1 (8 * (axes * j))) (one_place (point_at axes w p)))
+        (omega (arith, ap (λ (i : ℕ). axes * i) (add-one j), mul-suc axes j, float_bytes_length (point_at axes w p).at, floats_length axes (pairs w) ((axes + 1) * p)));
+    marks = writing_step (payloads points) ms 0 (bytes 4 (point_at axes w p).payload) (payloads (rest (j + 1))) ms1 ms2 (4 * j) (4 * (j + 1))
+        (subst (λ (l : List ℕ). Writing (payloads points) ms 0 l ms1 (4 * j)) (ap payloads (one_more j p h ep) ∙ marks_next (point_at axes w p) (rest (j + 1))) q.marks)
+        lm (es ∙ ap (λ (v : ℕ). sets ms1 (4 * j) (bytes 4 v)) em) (omega (arith, bytes_four (point_at axes w p).payload));
+  }
 
-    pub answering_places : (cs' ms' : List ℕ) (j : ℕ) → Answering cs' ms' j → n ≤ j → cs' ≡ sets cs 0 (coordinates points)
-    answering_places cs' ms' j q h = writing_end (coordinates points) cs 0 cs' (8 * (axes * j)) (subst (λ (l : List ℕ). Writing (coordinates points) cs 0 l cs' (8 * (axes * j))) (ap coordinates (no_more j h) ∙ none_written) q.places)
+  pub answering_places : (cs' ms' : List ℕ) (j : ℕ) → Answering cs' ms' j → length found ≤ j → cs' ≡ sets cs 0 (coordinates points)
+  answering_places cs' ms' j q h = writing_end (coordinates points) cs 0 cs' (8 * (axes * j)) (subst (λ (l : List ℕ). Writing (coordinates points) cs 0 l cs' (8 * (axes * j))) (ap coordinates (no_more j h) ∙ none_written) q.places)
 
-    pub answering_marks : (cs' ms' : List ℕ) (j : ℕ) → Answering cs' ms' j → n ≤ j → ms' ≡ sets ms 0 (payloads points)
-    answering_marks cs' ms' j q h = writing_end (payloads points) ms 0 ms' (4 * j) (subst (λ (l : List ℕ). Writing (payloads points) ms 0 l ms' (4 * j)) (ap payloads (no_more j h) ∙ none_marked) q.marks)
+  pub answering_marks : (cs' ms' : List ℕ) (j : ℕ) → Answering cs' ms' j → length found ≤ j → ms' ≡ sets ms 0 (payloads points)
+  answering_marks cs' ms' j q h = writing_end (payloads points) ms 0 ms' (4 * j) (subst (λ (l : List ℕ). Writing (payloads points) ms 0 l ms' (4 * j)) (ap payloads (no_more j h) ∙ none_marked) q.marks)
 
 -- ---- the whole answer
 module _ (axes : ℕ) (w found : List ℕ) (n k m most : ℕ) (cs ms : List ℕ) (ek : k ≡ min n 512) (em : m ≡ min k (length found)) (er : most ≡ room_for axes cs ms) where

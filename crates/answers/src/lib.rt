@@ -10,47 +10,18 @@ ghost use Rattle.trees.specs.Pieces.{bytes, coordinates, room_for};
 ghost use Rattle.trees.specs.Pieces as pieces;
 ghost use Rattle.trees.specs.Points.{point_at};
 ghost use Rattle.trees.specs.Handed.{Handed};
+ghost use Rattle.pieces.specs.Replies.{count_in, number_in};
 
 use floats::to_bits;
-use pieces::{base, payload};
-use words::get_float;
-
-// The reply number and how many points were handed over.
-#[derive(Clone, Copy)]
-pub struct Told {
-    pub reply: u32,
-    pub count: u32,
-}
-
-fn least(a: usize, b: usize) -> usize
-    ensures { result ≡ min a b }
-{
-    if a < b { a } else { b }
-}
-
-// Sets the four bytes from k on, which are there. Each quotient is taken from the one before, so that it is compiled to one store.
-fn store(t: &mut [u8], k: usize, v: u32)
-    requires { k + 4 ≤ length t.old }
-    ensures { t.new ≡ sets t.old k (bytes 4 v) }
-{
-    let b = v / 256;
-    let c = b / 256;
-    let d = c / 256;
-    t[k] = (v % 256) as u8;
-    t[k + 1] = (b % 256) as u8;
-    t[k + 2] = (c % 256) as u8;
-    t[k + 3] = (d % 256) as u8;
-}
+use pieces::{Refusal, base, payload};
+use words::{get_float, put_bytes};
 
 // Writes float number i, which there is room for.
 fn put_float(t: &mut [u8], i: usize, x: f64)
     requires { i < length t.old / 8 }
     ensures { t.new ≡ sets t.old (8 * i) (bytes 8 (to_bits binary64 x)) }
 {
-    let v = to_bits(x);
-    let k = 8 * i;
-    store(t, k, (v % 4294967296) as u32);
-    store(t, k + 4, (v / 4294967296) as u32);
+    put_bytes(t, 8 * i, to_bits(x).to_le_bytes());
 }
 
 // How many points both slices have room for.
@@ -60,7 +31,7 @@ pub fn room(axes: u8, coords: usize, payloads: usize) -> usize
     if axes == 0 {
         return 0;
     }
-    least(coords / (8 * (axes as usize)), payloads / 4)
+    (coords / (8 * (axes as usize))).min(payloads / 4)
 }
 
 // Writes the coordinates of the point in place p as number j of the answer, which there is room for.
@@ -71,32 +42,27 @@ fn put_place(coords: &mut [u8], j: usize, axes: u8, points: &[u8], p: u32)
     let many = axes as usize;
     let from = base(axes, p);
     let to = many * j;
-    let mut a = 0;
-    while a < many {
+    for a in 0..many {
         let x = get_float(points, from + a);
         put_float(coords, to + a, x);
-        a += 1;
     }
 }
 
-// Writes the points in the first n places found, which there is room for.
-fn write(axes: u8, points: &[u8], found: &[u32], n: usize, coords: &mut [u8], payloads: &mut [u8])
-    requires n_in_bounds { n ≤ length found.now }
-    requires room { n ≤ room_for axes coords.old payloads.old }
-    ensures coords_after { coords.new ≡ sets coords.old 0 (coordinates (map (point_at axes (words points.now)) (take n found.now))) }
-    ensures marks { payloads.new ≡ sets payloads.old 0 (pieces.payloads (map (point_at axes (words points.now)) (take n found.now))) }
+// Writes the points in the places found, which there is room for.
+fn write(axes: u8, points: &[u8], found: &[u32], coords: &mut [u8], payloads: &mut [u8])
+    requires { length found.now ≤ room_for axes coords.old payloads.old }
+    ensures coords_after { coords.new ≡ sets coords.old 0 (coordinates (map (point_at axes (words points.now)) found.now)) }
+    ensures marks { payloads.new ≡ sets payloads.old 0 (pieces.payloads (map (point_at axes (words points.now)) found.now)) }
 {
-    let mut j = 0;
-    while j < n {
-        let p = found[j];
-        let m = payload(axes, points, p);
-        put_place(coords, j, axes, points, p);
-        store(payloads, 4 * j, m);
-        j += 1;
+    for (j, p) in found.iter().enumerate() {
+        let m = payload(axes, points, *p);
+        put_place(coords, j, axes, points, *p);
+        put_bytes(payloads, 4 * j, m.to_le_bytes());
     }
 }
 
-// Hands over the points in the first n places found, 512 at most, or refuses where there are more than both slices have room for.
+// Kept: n beside the places, which may be fewer: the least of both and 512 counts.
+// Hands over the points in the first n places found, 512 at most, and says how many, or refuses where there are more than both slices have room for.
 pub fn answer(
     axes: u8,
     points: &[u8],
@@ -104,17 +70,14 @@ pub fn answer(
     n: usize,
     coords: &mut [u8],
     payloads: &mut [u8],
-) -> Told
-    ensures { Handed (room_for axes coords.old payloads.old) (map (point_at axes (words points.now)) (take (min n 512) found.now)) coords.old payloads.old coords.new payloads.new result.reply result.count }
+) -> Result<u32, Refusal>
+    ensures { Handed (room_for axes coords.old payloads.old) (map (point_at axes (words points.now)) (take (min n 512) found.now)) coords.old payloads.old coords.new payloads.new (number_in result) (count_in result) }
 {
-    let m = least(least(n, 512), found.len());
+    let m = n.min(512).min(found.len());
     let most = room(axes, coords.len(), payloads.len());
     if m > most {
-        return Told { reply: 7, count: 0 };
+        return Err(Refusal::NoRoom);
     }
-    write(axes, points, found, m, coords, payloads);
-    Told {
-        reply: 0,
-        count: m as u32,
-    }
+    write(axes, points, &found[..m], coords, payloads);
+    Ok(m as u32)
 }

@@ -6,7 +6,7 @@ use Prim.Native.Nat.{ℕ, ◌+◌, ◌*◌, ◌/◌, ◌%◌}
 use native.Mathlib.Omega.{arith}
 use lib.Dec.{eqb}
 use lib.Ieee.{Float, eq}
-use Rattle.model.specs.Boxes.{Side, on_each, holds, inside, touches, meets, same_place, turn, route, half, part, added, square, axis_distance, axis_sq, node_distance, side}
+use Rattle.model.specs.Boxes.{Side, on_each, holds, inside, touches, meets, same_place, turn, route, half, part, added, square, axis_distance, axis_sq, node_distance}
 
 -- ---- a test on each axis
 and_true : (a : Bool) → a ≡ (a && true)
@@ -63,9 +63,9 @@ pub part_none : (i : ℕ) → [] ≡ part [] i
 unfolding part
 part_none i = refl
 
-pub part_more : (t : Bool) (i : ℕ) (c e : Float) (s : Side) (b r : List Side) → t ≡ eqb (i % 2) 1 → c ≡ (half t s).corner → e ≡ (half t s).extent → r ≡ part b (i / 2) → side c e ∷ r ≡ part (s ∷ b) i
+pub part_more : (t : Bool) (i : ℕ) (x s : Side) (b r : List Side) → t ≡ eqb (i % 2) 1 → x ≡ half t s → r ≡ part b (i / 2) → x ∷ r ≡ part (s ∷ b) i
 unfolding part
-part_more t i c e s b r h p q k = ap₂ (λ (x : Side) (y : List Side). x ∷ y) (ap₂ side p q ∙ ap (λ (u : Bool). half u s) h) k
+part_more t i x s b r h e k = ap₂ (λ (x : Side) (y : List Side). x ∷ y) (e ∙ ap (λ (u : Bool). half u s) h) k
 
 -- ---- the sum of squares
 -- d holds the distance on each axis

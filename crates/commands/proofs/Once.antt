@@ -1,66 +1,63 @@
--- A record has one command: the call of a command and that its z is +0 where places have none determine it. Assumes nothing.
+-- A record has one command: the call of a command determines it, where the sides of a box determine the box and the coordinates of a point the point. Assumes nothing.
 use Prim.Native.Nat.{ℕ}
 use mathlib.Core.Path.{◌≡◌, refl, sym, ap, ◌∙◌}
-use mathlib.Core.Bool.{Bool, true, false}
 use mathlib.Core.List.{List}
-use mathlib.Core.Option.{Option, none, some}
-use lib.Ieee.{Float}
+use lib.Ieee.{Float, nan}
 use lib.ListN.{get_or}
-use Rattle.floats.specs.Values.{plus_zero}
 use Rattle.model.specs.Boxes.{Side, side}
 use Rattle.model.specs.Calls as calls
-use Rattle.commands.specs.Commands.{call_in, flattened}
+use Rattle.geometry.specs.Sides.{place2, place3, sides2, sides3}
+use Rattle.geometry.specs.declared.plane.Point2D.{Point2D}
+use Rattle.geometry.specs.declared.plane.Rectangle.{Rectangle}
+use Rattle.geometry.specs.declared.space.Point3D.{Point3D}
+use Rattle.geometry.specs.declared.space.Cube.{Cube}
+use Rattle.commands.specs.Commands.{call_in}
 use Rattle.commands.specs.declared.Command.{Command}
-use Rattle.commands.specs.declared.Command.TheVariants.{Create, Insert, Delete, Contains, Range, Knn, Box, Len, Clear, Bad}
+use Rattle.commands.specs.declared.Command.TheVariants.{Create, Insert, Delete, Contains, Range, Knn, Box, Len, Clear}
 
--- coordinate, corner and extent number i, and +0 where there is none
+module _ {R P : Type 0} (sides : R → List Side) (place : P → List Float) (box : List Side → R) (point : List Float → P) (boxes : (b : R) → b ≡ box (sides b)) (points : (p : P) → p ≡ point (place p)) where
+  -- the command of a call; no record says those that are Len here
+  command_of : calls.Call → Command R P
+  command_of (calls.Create b n) = Create (box b) n
+  command_of (calls.Insert p) = Insert (point p.at) p.payload
+  command_of (calls.Bulk ps) = Len
+  command_of (calls.Delete p) = Delete (point p.at) p.payload
+  command_of calls.Clear = Clear
+  command_of (calls.Ask (calls.Contains p)) = Contains (point p.at) p.payload
+  command_of (calls.Ask calls.Len) = Len
+  command_of (calls.Ask calls.IsEmpty) = Len
+  command_of (calls.Ask (calls.Radius c r n)) = Range (point c) r
+  command_of (calls.Ask (calls.Box b n)) = Box (box b)
+  command_of (calls.Ask (calls.Nearest c k n)) = Knn (point c) k
+
+  back : (c : Command R P) → c ≡ command_of (call_in sides place c)
+  unfolding call_in command_of
+  back (Create b n) = ap (λ (a : R). Create a n) (boxes b)
+  back (Insert p n) = ap (λ (q : P). Insert q n) (points p)
+  back (Delete p n) = ap (λ (q : P). Delete q n) (points p)
+  back (Contains p n) = ap (λ (q : P). Contains q n) (points p)
+  back (Range p radius) = ap (λ (q : P). Range q radius) (points p)
+  back (Knn p k) = ap (λ (q : P). Knn q k) (points p)
+  back (Box b) = ap (λ (a : R). Box a) (boxes b)
+  back Len = refl
+  back Clear = refl
+
+  once : (c d : Command R P) → call_in sides place c ≡ call_in sides place d → c ≡ d
+  once c d e = back c ∙ ap command_of e ∙ sym (back d)
+
+-- coordinate, corner and extent number i, and NaN where there is none
 abbrev at : List Float → ℕ → Float
-at p i = get_or p i plus_zero
+at p i = get_or p i nan
 
 abbrev corner : List Side → ℕ → Float
-corner b i = (get_or b i (side plus_zero plus_zero)).corner
+corner b i = (get_or b i (side nan nan)).corner
 
 abbrev extent : List Side → ℕ → Float
-extent b i = (get_or b i (side plus_zero plus_zero)).extent
+extent b i = (get_or b i (side nan nan)).extent
 
--- the command of a call
-command_of : Option calls.Call → Command
-command_of none = Bad
-command_of (some (calls.Create b n)) = Create (corner b 0) (corner b 1) (corner b 2) (extent b 0) (extent b 1) (extent b 2) n
-command_of (some (calls.Insert p)) = Insert (at p.at 0) (at p.at 1) (at p.at 2) p.payload
-command_of (some (calls.Bulk ps)) = Bad
-command_of (some (calls.Delete p)) = Delete (at p.at 0) (at p.at 1) (at p.at 2) p.payload
-command_of (some calls.Clear) = Clear
-command_of (some (calls.Ask (calls.Contains p))) = Contains (at p.at 0) (at p.at 1) (at p.at 2) p.payload
-command_of (some (calls.Ask calls.Len)) = Len
-command_of (some (calls.Ask calls.IsEmpty)) = Bad
-command_of (some (calls.Ask (calls.Radius c r n))) = Range (at c 0) (at c 1) (at c 2) r
-command_of (some (calls.Ask (calls.Box b n))) = Box (corner b 0) (corner b 1) (corner b 2) (extent b 0) (extent b 1) (extent b 2)
-command_of (some (calls.Ask (calls.Nearest c k n))) = Knn (at c 0) (at c 1) (at c 2) k
+-- two commands of a program that are promised of a record are one
+pub command_once_quad : (c d : Command Rectangle Point2D) → call_in sides2 place2 c ≡ call_in sides2 place2 d → c ≡ d
+command_once_quad = once sides2 place2 (λ b. record { x = corner b 0; y = corner b 1; width = extent b 0; height = extent b 1 }) (λ p. record { x = at p 0; y = at p 1 }) (λ b. refl) (λ p. refl)
 
-back : (deep : Bool) (c : Command) → flattened deep c ≡ command_of (call_in deep c)
-unfolding flattened call_in command_of
-back true (Create x y z width height depth capacity) = refl
-back true (Insert x y z n) = refl
-back true (Delete x y z n) = refl
-back true (Contains x y z n) = refl
-back true (Range x y z radius) = refl
-back true (Knn x y z k) = refl
-back true (Box x y z width height depth) = refl
-back true Len = refl
-back true Clear = refl
-back true Bad = refl
-back false (Create x y z width height depth capacity) = refl
-back false (Insert x y z n) = refl
-back false (Delete x y z n) = refl
-back false (Contains x y z n) = refl
-back false (Range x y z radius) = refl
-back false (Knn x y z k) = refl
-back false (Box x y z width height depth) = refl
-back false Len = refl
-back false Clear = refl
-back false Bad = refl
-
--- two commands that are promised of a record are one
-pub command_once : (deep : Bool) (a b : Command) → call_in deep a ≡ call_in deep b → flattened deep a ≡ a → flattened deep b ≡ b → a ≡ b
-command_once deep a b e f g = sym f ∙ back deep a ∙ ap command_of e ∙ sym (back deep b) ∙ g
+pub command_once_oct : (c d : Command Cube Point3D) → call_in sides3 place3 c ≡ call_in sides3 place3 d → c ≡ d
+command_once_oct = once sides3 place3 (λ b. record { x = corner b 0; y = corner b 1; z = corner b 2; width = extent b 0; height = extent b 1; depth = extent b 2 }) (λ p. record { x = at p 0; y = at p 1; z = at p 2 }) (λ b. refl) (λ p. refl)

@@ -1,83 +1,107 @@
--- The command of a record, from its word and the numbers that were read. Over both programs.
-use Prim.Native.Nat.{ℕ, ◌-◌, ◌≤◌, ◌<◌}
-use mathlib.Core.Path.{◌≡◌, refl, sym, ap, ◌∙◌, subst}
-use mathlib.Core.Bool.{Bool, true, false, cond}
-use mathlib.Core.List.{List}
-use mathlib.Core.Option.{none}
+-- The command of a record, from its word and the numbers that were read. Over any tree's boxes and points.
+use Prim.Native.Nat.{ℕ, ◌+◌, ◌-◌, ◌*◌, ◌≤◌, ◌<◌}
+use mathlib.Core.Path.{◌≡◌, refl, sym, ap, ap₂, ◌∙◌, subst}
+use mathlib.Core.Bool.{false}
+use mathlib.Core.List.{List, zip_with}
+use Rattle.std.specs.Prelude.{Option, None, Some, IfSome, IfNone}
+use Rattle.std.specs.Option.{unwrap_or}
 use native.Mathlib.Omega.{arith}
-use lib.Ieee.{Float, binary64, nan, of_bits}
+use lib.Ieee.{Float, nan}
 use lib.ListN.{length, get_or, take, drop}
-use Rattle.floats.proofs.Patterns.{zero_bits}
-use Rattle.tree.specs.Depths.{kind}
-use Rattle.record.specs.Commands.{call_of, floats_after, whole_after, word_of}
+use Rattle.std.proofs.lemmas.List.{drop-take, get_or-take, take-take}
+use Rattle.model.specs.Boxes.{Side}
+use Rattle.model.specs.Calls as calls
+use Rattle.tree.specs.Sides.{boxed}
+use Rattle.record.specs.Commands.{call_of, floats_after, understood, whole_after, word_of}
 use Rattle.record.specs.Read.{Reads, rest}
 use Rattle.record.specs.Text.{has}
 use Rattle.record.specs.declared.Word.{Word}
-use Rattle.record.specs.declared.numbers.Whole.{Whole}
-use Rattle.record.specs.declared.numbers.Whole.TheVariants as whole
-use Rattle.record.proofs.Commands.{Spread, floats_few, said_not, said_value, spread}
-use Rattle.commands.specs.Commands.{call_in, flattened, made, says, third}
+use Rattle.record.proofs.Commands.{floats_few, said_not, said_other, said_value}
+use Rattle.record.proofs.Parts.{found_at}
+use Rattle.commands.specs.Commands.{call_in}
 use Rattle.commands.specs.declared.Command.{Command}
+use Rattle.commands.specs.declared.Command.TheVariants.{Create, Insert, Delete, Contains, Range, Knn, Box, Len, Clear}
 
--- with a z and without
-pub either : (P : Bool → Type 0) → P true → P false → (deep : Bool) → P deep
-either P f g true = f
-either P f g false = g
+-- ---- the call of each word, from the points of the numbers
+-- what a command is of a word and the numbers that were read
+abbrev pub Spells : {R P : Type 0} (sides : R → List Side) (place : P → List Float) (axes : ℕ) (l : List Float) (n : ℕ) → Word → Command R P → Type 0
+Spells sides place axes l n w c = call_in sides place c ≡ call_of axes w (record { floats = take (floats_after axes w) l; whole = n })
 
-plain : (deep : Bool) → has 34 (made deep) ≡ false
-unfolding has
-plain true = refl
-plain false = refl
+module _ {R P : Type 0} (sides : R → List Side) (place : P → List Float) (axes : ℕ) (l : List Float) (n : ℕ) where
+  pub spelt : {w v : Word} {c d : Command R P} → w ≡ v → c ≡ d → Spells sides place axes l n v d → Spells sides place axes l n w c
+  spelt {w} {v} {c} {d} e f h = subst (λ (u : Word). Spells sides place axes l n u c) (sym e) (subst (Spells sides place axes l n v) (sym f) h)
 
-some_axes : (deep : Bool) → 1 ≤ (kind deep).axes
-some_axes true = omega arith
-some_axes false = omega arith
+  pub insert_is : (p : P) → place p ≡ take axes l → Spells sides place axes l n Word.Insert (Insert p n)
+  unfolding call_in call_of floats_after
+  insert_is p first = ap (λ (s : List Float). calls.Insert (record { at = s; payload = n })) first
 
-few_axes : (deep : Bool) → (kind deep).axes ≤ 3
-few_axes true = omega arith
-few_axes false = omega arith
+  pub delete_is : (p : P) → place p ≡ take axes l → Spells sides place axes l n Word.Delete (Delete p n)
+  unfolding call_in call_of floats_after
+  delete_is p first = ap (λ (s : List Float). calls.Delete (record { at = s; payload = n })) first
 
--- the command that is made of the array and of what was picked of it
-abbrev pub picked : (deep : Bool) → (List Float → (z w h d : Float) → Command) → List Float → Command
-picked deep f l = f l (third deep (get_or l 2 nan)) (cond deep (get_or l 3 nan) (get_or l 2 nan)) (cond deep (get_or l 4 nan) (get_or l 3 nan)) (third deep (get_or l 5 nan))
+  pub contains_is : (p : P) → place p ≡ take axes l → Spells sides place axes l n Word.Contains (Contains p n)
+  unfolding call_in call_of floats_after
+  contains_is p first = ap (λ (s : List Float). calls.Ask (calls.Contains (record { at = s; payload = n }))) first
 
--- what is promised of the command of a record
-abbrev pub Meant : (deep : Bool) → List ℕ → Command → Type 0
-Meant deep s c = (call_in deep c ≡ says deep s) × (flattened deep c ≡ c)
+  pub knn_is : (p : P) → place p ≡ take axes l → Spells sides place axes l n Word.Knn (Knn p n)
+  unfolding call_in call_of floats_after
+  knn_is p first = ap (λ (s : List Float). calls.Ask (calls.Nearest s n 512)) first
 
--- a command by a word's numbers: it is the word's call, with no z where there is none
-abbrev pub Right : (deep : Bool) (v : Word) (n : ℕ) → (List Float → (z w h d : Float) → Command) → Type 0
-Right deep v n f =
-    Spread 6 (λ l. (call_in deep (picked deep f l) ≡ call_of (kind deep).axes v (record { floats = take (floats_after (kind deep).axes v) l; whole = n })) × (flattened deep (picked deep f l) ≡ picked deep f l))
+  pub range_is : (p : P) (a : ℕ) → a ≡ axes → place p ≡ take axes l → Spells sides place axes l n Word.Range (Range p (get_or l a nan))
+  unfolding call_in call_of floats_after
+  range_is p a many first =
+      ap₂ (λ (s : List Float) (r : Float). calls.Ask (calls.Radius s r 512))
+      (first ∙ sym (take-take axes (axes + 1) l (omega arith)))
+      (ap (λ (b : ℕ). get_or l b nan) many ∙ sym (get_or-take (axes + 1) l axes nan (omega arith)))
 
--- as the code has it
-third_is : (deep : Bool) (a z : Float) → z ≡ cond deep a (of_bits binary64 0) → z ≡ third deep a
-third_is deep a z e = e ∙ ap (λ (o : Float). cond deep a o) zero_bits
+  pub len_is : Spells sides place axes l n Word.Len Len
+  unfolding call_in call_of
+  len_is = refl
 
-module _ (deep : Bool) (s : List ℕ) (e : ℕ) (w : Word) (axes : ℕ) (r : Whole) (before after : List Float) (within : e ≤ length s) (first : (k : ℕ) → k < e → get_or s k 0 ≡ 44 → ⊥) (found : e < length s → get_or s e 0 ≡ 44) (word : w ≡ word_of (made deep) (take (e - 0) s)) (many : axes ≡ (kind deep).axes) (six : length before ≡ 6) (read : Reads (floats_after axes w) (whole_after w) (rest (take (length s - e) (drop e s))) r before after) where
-  room : floats_after (kind deep).axes w ≤ length before
-  room = omega (arith, six, floats_few (kind deep).axes w (some_axes deep), few_axes deep)
+  pub clear_is : Spells sides place axes l n Word.Clear Clear
+  unfolding call_in call_of
+  clear_is = refl
 
-  have : Reads (floats_after (kind deep).axes w) (whole_after w) (rest (take (length s - e) (drop e s))) r before after
-  have = subst (λ (a : ℕ). Reads (floats_after a w) (whole_after w) (rest (take (length s - e) (drop e s))) r before after) many read
+  module _ (p q : P) (b : R) (a : ℕ) (few : axes ≤ 3) (many : a ≡ axes) (first : place p ≡ take axes l) (second : place q ≡ take axes (take (6 - a) (drop a l))) (of : sides b ≡ boxed (place p) (place q)) where
+    corner : place p ≡ take axes (take (2 * axes) l)
+    corner = first ∙ sym (take-take axes (2 * axes) l (omega arith))
 
-  pub says_none : r ≡ whole.Not → none ≡ says deep s
-  says_none er = said_not (made deep) (kind deep).axes s e w r before after (plain deep) within first found word room have er
+    extent : place q ≡ drop axes (take (2 * axes) l)
+    extent =
+        second ∙ ap (λ (b : ℕ). take axes (take (6 - b) (drop b l))) many ∙ take-take axes (6 - axes) (drop axes l) (omega (arith, few)) ∙ sym (drop-take axes axes l)
+        ∙ ap (λ (m : ℕ). drop axes (take m l)) {x = axes + axes} {y = 2 * axes} (omega arith)
 
-  pub says_some : (v : Word) (n : ℕ) (z width height depth : Float) (f : List Float → (z w h d : Float) → Command) → length after ≡ 6 → z ≡ cond deep (get_or after 2 nan) (of_bits binary64 0) → width ≡ cond deep (get_or after 3 nan) (get_or after 2 nan) → height ≡ cond deep (get_or after 4 nan) (get_or after 3 nan) → depth ≡ cond deep (get_or after 5 nan) (of_bits binary64 0)
-      → Right deep v n f → w ≡ v → r ≡ whole.Value n → Meant deep s (f after z width height depth)
-  says_some v n z width height depth f len ez ew eh ed g ev er = subst (Meant deep s) (sym same) (right.0 ∙ call, right.1)
-    where
-      same : f after z width height depth ≡ picked deep f after
-      same =
-          ap (λ (x : Float). f after x width height depth) (third_is deep (get_or after 2 nan) z ez)
-          ∙ ap (λ (x : Float). f after (third deep (get_or after 2 nan)) x height depth) ew
-          ∙ ap (λ (x : Float). f after (third deep (get_or after 2 nan)) (cond deep (get_or after 3 nan) (get_or after 2 nan)) x depth) eh
-          ∙ ap (λ (x : Float). f after (third deep (get_or after 2 nan)) (cond deep (get_or after 3 nan) (get_or after 2 nan)) (cond deep (get_or after 4 nan) (get_or after 3 nan)) x) (third_is deep (get_or after 5 nan) depth ed)
+    box : sides b ≡ zip_with (λ c e. record { corner = c; extent = e }) (take axes (take (2 * axes) l)) (drop axes (take (2 * axes) l))
+    box = of ∙ ap₂ boxed corner extent
 
-      right : (call_in deep (picked deep f after) ≡ call_of (kind deep).axes v (record { floats = take (floats_after (kind deep).axes v) after; whole = n })) × (flattened deep (picked deep f after) ≡ picked deep f after)
-      right =
-          spread 6 (λ (l : List Float). (call_in deep (picked deep f l) ≡ call_of (kind deep).axes v (record { floats = take (floats_after (kind deep).axes v) l; whole = n })) × (flattened deep (picked deep f l) ≡ picked deep f l)) g after len
+    pub create_is : Spells sides place axes l n Word.Create (Create b n)
+    unfolding call_in call_of floats_after
+    create_is = ap (λ (s : List Side). calls.Create s n) box
 
-      call : call_of (kind deep).axes v (record { floats = take (floats_after (kind deep).axes v) after; whole = n }) ≡ says deep s
-      call = said_value (made deep) (kind deep).axes s e w r before after (plain deep) within first found word room have v n ev er
+    pub box_is : Spells sides place axes l n Word.Box (Box b)
+    unfolding call_in call_of floats_after
+    box_is = ap (λ (s : List Side). calls.Ask (calls.Box s 512)) box
+
+-- ---- the record, which was cut at its first comma
+module _ (made : List ℕ) (axes : ℕ) (s : List ℕ) (e : ℕ) (o : Option ℕ) (plain : has 34 made ≡ false) (end : e ≡ unwrap_or o (length s)) (found : IfSome o (λ i. (i < length s) × (get_or s i 0 ≡ 44))) (first : IfSome o (λ i. (k : ℕ) → k < i → get_or s k 0 ≡ 44 → ⊥)) (nowhere : IfNone o ((k : ℕ) → k < length s → get_or s k 0 ≡ 44 → ⊥)) (first_word : Option Word) (given : List ℕ) (makes : given ≡ made) (read : first_word ≡ word_of given (take e s)) where
+  cut : (e ≤ length s) × ((k : ℕ) → k < e → get_or s k 0 ≡ 44 → ⊥) × (e < length s → get_or s e 0 ≡ 44)
+  cut = found_at s 44 e o end found first nowhere
+
+  word_is : (v : Option Word) → first_word ≡ v → v ≡ word_of made (take e s)
+  word_is v f = sym f ∙ read ∙ ap (λ (m : List ℕ). word_of m (take e s)) makes
+
+  pub says_other : first_word ≡ None → None ≡ understood made axes s
+  says_other f = said_other made axes s e plain cut.0 cut.1 cut.2 (word_is None f)
+
+  module _ (w : Word) (a : ℕ) (r : Option ℕ) (before after : List Float) (some : 1 ≤ axes) (few : axes ≤ 3) (many : a ≡ axes) (six : length before ≡ 6) (is : first_word ≡ Some w) (filled : Reads (floats_after a w) (whole_after w) (rest (take (length s - e) (drop e s))) r before after) where
+    room : floats_after axes w ≤ length before
+    room = omega (arith, six, floats_few axes w some, few)
+
+    have : Reads (floats_after axes w) (whole_after w) (rest (take (length s - e) (drop e s))) r before after
+    have = subst (λ (b : ℕ). Reads (floats_after b w) (whole_after w) (rest (take (length s - e) (drop e s))) r before after) many filled
+
+    pub says_not : r ≡ None → None ≡ understood made axes s
+    says_not = said_not made axes s e plain cut.0 cut.1 cut.2 w r before after (word_is (Some w) is) room have
+
+    pub says_some : (n : ℕ) (c : calls.Call) → r ≡ Some n → c ≡ call_of axes w (record { floats = take (floats_after axes w) after; whole = n }) → Some c ≡ understood made axes s
+    says_some n c er ec = ap Some ec ∙ said_value made axes s e plain cut.0 cut.1 cut.2 w r before after (word_is (Some w) is) room have w n refl er

@@ -1,73 +1,107 @@
 // The commands of both programs, and the one that a record says.
 #![tactic(auto)]
 
-ghost use Rattle.std.specs.Prelude.{◌≡◌, cond};
-ghost use Rattle.record.specs.Commands.{word_of};
-ghost use Rattle.commands.specs.Commands.{call_in, flattened, made, says};
+ghost use Rattle.std.specs.Prelude.{false, ◌≡◌, ◌+◌, ◌*◌, ◌≤◌, List, ℕ, option_map};
+ghost use Rattle.model.specs.Calls.{ways};
+ghost use Rattle.record.specs.Commands.{understood, word_oct, word_quad};
+ghost use Rattle.record.specs.Text.{has};
+ghost use Rattle.commands.specs.Commands.{call_in};
+ghost use Rattle.record.proofs.Quotes.{plain_oct, plain_quad};
+ghost use Rattle.std.proofs.Common.{arith};
 
 use fields::{find, numbers_of, word_of};
+use geometry::plane::Rectangle;
+use geometry::space::Cube;
 use record::Word;
-use record::numbers::Whole;
-use tree::region::axes;
+use tree::kind::Tree;
 
-// A record's command with its numbers, or that it is not understood. One enum serves both programs: where places have no z, every z and depth is +0 and not looked at.
+// What tells one program from the other, besides its tree.
+pub trait Program: Tree {
+    // The word of the record that makes a tree.
+    ghost made: { List ℕ };
+
+    fn word() -> &'static [u8]
+        ensures { result.now ≡ made };
+
+    // What the reading of a record asks of the word and of the axes.
+    ghost plain: { has 34 made ≡ false };
+
+    ghost some_axes: { 1 ≤ Self.kind.axes };
+
+    ghost few_axes: { Self.kind.axes ≤ 3 };
+
+    // As many nodes as the arrays of a program have room for.
+    ghost few_nodes: { ways Self.kind * Self.groups + ways Self.kind ≤ 344 };
+}
+
+impl Program for Rectangle {
+    ghost made = { word_quad };
+
+    fn word() -> &'static [u8] {
+        b"quad"
+    }
+
+    ghost plain = { plain_quad };
+
+    ghost some_axes = { Prim.omega arith };
+
+    ghost few_axes = { Prim.omega arith };
+
+    ghost few_nodes = { Prim.omega arith };
+}
+
+impl Program for Cube {
+    ghost made = { word_oct };
+
+    fn word() -> &'static [u8] {
+        b"oct"
+    }
+
+    ghost plain = { plain_oct };
+
+    ghost some_axes = { Prim.omega arith };
+
+    ghost few_axes = { Prim.omega arith };
+
+    ghost few_nodes = { Prim.omega arith };
+}
+
+// A record's command with its numbers, over the boxes R and the points P of a tree.
 #[derive(Clone, Copy)]
-pub enum Command {
-    Create(f64, f64, f64, f64, f64, f64, u32),
-    Insert(f64, f64, f64, u32),
-    Delete(f64, f64, f64, u32),
-    Contains(f64, f64, f64, u32),
-    Range(f64, f64, f64, f64),
-    Knn(f64, f64, f64, u32),
-    Box(f64, f64, f64, f64, f64, f64),
+pub enum Command<R, P> {
+    Create(R, u32),
+    Insert(P, u32),
+    Delete(P, u32),
+    Contains(P, u32),
+    Range(P, f64),
+    Knn(P, u32),
+    Box(R),
     Len,
     Clear,
-    Bad,
 }
 
-// The word that a first field is; a tree is made by `oct` or by `quad`.
-fn first_word(deep: bool, w: &[u8]) -> Word
-    ensures { result ≡ word_of (made deep) w.now }
+// The command of a record, which is given without its line end, if it is understood.
+pub fn parse<R: Program>(s: &[u8]) -> Option<Command<R, R::Point>>
+    ensures { option_map (call_in R.sides R.Point.place) result ≡ understood R.made R.kind.axes s.now }
 {
-    if deep {
-        return word_of(w, b"oct");
-    }
-    word_of(w, b"quad")
-}
-
-fn pick(deep: bool, a: f64, b: f64) -> f64
-    ensures { result ≡ cond deep a b }
-{
-    if deep { a } else { b }
-}
-
-// The command of a record, which is given without its line end.
-pub fn parse(deep: bool, s: &[u8]) -> Command
-    ensures result_value { call_in deep result ≡ says deep s.now }
-    ensures flat { flattened deep result ≡ result }
-{
-    let e = find(s, b',');
-    let word = first_word(deep, &s[0..e]);
-    let many = axes(deep);
-    let mut n: [f64; 6] = [0.0; 6];
-    let Whole::Value(m) = numbers_of(&s[e..], word, many, &mut n) else {
-        return Command::Bad;
-    };
-    let z = pick(deep, n[2], 0.0);
-    // A radius stands where a width does, after the last coordinate.
-    let w = pick(deep, n[3], n[2]);
-    let h = pick(deep, n[4], n[3]);
-    let d = pick(deep, n[5], 0.0);
-    match word {
-        Word::Create => Command::Create(n[0], n[1], z, w, h, d, m),
-        Word::Insert => Command::Insert(n[0], n[1], z, m),
-        Word::Delete => Command::Delete(n[0], n[1], z, m),
-        Word::Contains => Command::Contains(n[0], n[1], z, m),
-        Word::Range => Command::Range(n[0], n[1], z, w),
-        Word::Knn => Command::Knn(n[0], n[1], z, m),
-        Word::Box => Command::Box(n[0], n[1], z, w, h, d),
+    let end = find(s, b',').unwrap_or(s.len());
+    let word = word_of(&s[..end], R::word())?;
+    let mut numbers: [f64; 6] = [0.0; 6];
+    let whole = numbers_of(&s[end..], word, R::axes(), &mut numbers)?;
+    let axes = R::axes() as usize;
+    let point = R::point(&numbers);
+    // The extents, or a radius, stand after the coordinates.
+    let extent = R::point(&numbers[axes..]);
+    let command = match word {
+        Word::Create => Command::Create(R::region(point, extent), whole),
+        Word::Insert => Command::Insert(point, whole),
+        Word::Delete => Command::Delete(point, whole),
+        Word::Contains => Command::Contains(point, whole),
+        Word::Range => Command::Range(point, numbers[axes]),
+        Word::Knn => Command::Knn(point, whole),
+        Word::Box => Command::Box(R::region(point, extent)),
         Word::Len => Command::Len,
         Word::Clear => Command::Clear,
-        Word::Bad => Command::Bad,
-    }
+    };
+    Some(command)
 }

@@ -1,28 +1,36 @@
--- What a command does, from what the calls of a tree promise. Over both trees.
-use Prim.Native.Nat.{ℕ, ◌+◌, ◌≤◌, ◌<◌}
-use mathlib.Core.Path.{◌≡◌, sym, ap, ◌∙◌, subst}
-use mathlib.Core.Bool.{Bool, true, false, cond, not}
+-- What a command does, from what the calls of a tree promise. Over any kind of tree with at most three axes.
+use Prim.Native.Nat.{ℕ, zero, suc, ◌+◌, ◌≤◌, ◌<◌}
+use mathlib.Core.Path.{◌≡◌, refl, sym, ap, ◌∙◌, subst, subst⁻¹, subst₂}
+use mathlib.Core.Bool.{Bool, true, false, cond, not, ◌||◌}
 use mathlib.Core.List.{List, [], ◌∷◌}
-use mathlib.Core.Option.{some}
+use Rattle.std.specs.Prelude.{Option, Some, Result, Ok, Err, option_map}
+use Rattle.std.specs.Result.{is_ok}
 use native.Mathlib.Nat.{le_of_eq}
 use native.Mathlib.Omega.{arith}
-use lib.Dec.{T, eqb, leb}
+use denote.Enum.Declared
+use denote.RattleType.{RattleType}
+use mir.Val.{bool_byte, has_key}
+use types.Run.{OneOf, miss}
+use borrow.Author.Tests.{eq-eqb, ne_eqb}
+use lib.Dec.{T, eqb}
 use lib.Ieee.{Float}
 use lib.ListN.{length, get_or}
-use borrow.Author.Tests.{leb-false, leb-true}
-use denote.Enum.Declared
-use mir.Val.{has_key}
-use types.Run.{OneOf, miss}
-use Rattle.model.specs.Calls.{Ask, Box, Nearest, Radius}
-use Rattle.trees.specs.Pieces.{Pieces, SearchesHeld, room_for}
-use Rattle.tree.specs.Depths.{coords, kind, region}
+use Rattle.model.specs.Boxes.{Side}
+use Rattle.model.specs.Calls as calls
+use Rattle.model.specs.Calls.{Ask, Call, Kind, Plan, Query, done, number, step, tree}
+use Rattle.model.specs.Soundness.{All}
+use Rattle.model.specs.Trees as trees
+use Rattle.trees.specs.Pieces.{AsksHeld, Pieces, SearchesHeld, room_for}
+use Rattle.pieces.specs.Replies.{count_in, figure, number_in, reply_of}
+use Rattle.pieces.specs.declared.Refusal.{Refusal}
+use Rattle.replies.specs.Lines.{makes}
 use Rattle.replies.specs.Printed.{PutsTold}
 use Rattle.replies.specs.Programs.{Answers, longest}
-use Rattle.replies.proofs.Answers.{answers_as, answers_told, box_pointed, nearest_pointed, radius_pointed}
-use Rattle.replies.proofs.Shapes.{box_asked, nearest_asked, radius_asked}
+use Rattle.replies.proofs.Answers.{Pointed, answers_told, box_pointed, nearest_pointed, radius_pointed}
+use Rattle.replies.proofs.Shapes.{Asked, box_asked, nearest_asked, radius_asked}
+use Rattle.replies.proofs.Told.{ShapedPoint, refused_not}
 use Rattle.commands.specs.Commands.{call_in}
 use Rattle.commands.specs.declared.Command.{Command}
-use Rattle.commands.specs.declared.Command.TheVariants as command
 use Rattle.commands.specs.contracts.Command as declared
 
 -- ---- a command is not one of another kind
@@ -32,44 +40,64 @@ without k (x ∷ xs) = cond (eqb k x) (without k xs) (x ∷ without k xs)
 
 -- the numbers of all kinds but one
 abbrev others : ℕ → List ℕ
-others k = without k (0 ∷ 1 ∷ 2 ∷ 3 ∷ 4 ∷ 5 ∷ 6 ∷ 7 ∷ 8 ∷ 9 ∷ [])
+others k = without k (0 ∷ 1 ∷ 2 ∷ 3 ∷ 4 ∷ 5 ∷ 6 ∷ 7 ∷ 8 ∷ [])
 
-pub another : (k : ℕ) (c d : Command) → c ≡ d → T (not (has_key (others k) (Declared.tag_of declared.the_type d))) → OneOf (others k) (Declared.tag_of declared.the_type c) → ⊥
-another k c d e h o = miss (others k) (Declared.tag_of declared.the_type d) h (subst (λ (b : Command). OneOf (others k) (Declared.tag_of declared.the_type b)) e o)
+pub another : (R P : RattleType) (k : ℕ) (c d : Command R.Denot P.Denot) → c ≡ d → T (not (has_key (others k) (Declared.tag_of (declared.the_type R P) d))) → OneOf (others k) (Declared.tag_of (declared.the_type R P) c) → ⊥
+another R P k c d e h o = miss (others k) (Declared.tag_of (declared.the_type R P) d) h (subst (λ (b : Command R.Denot P.Denot). OneOf (others k) (Declared.tag_of (declared.the_type R P) b)) e o)
 
--- ---- room
-pub has : (deep : Bool) (axes at size : ℕ) (r : Bool) → axes ≡ (kind deep).axes → r ≡ leb (at + longest axes) size → r ≡ true → at + longest (kind deep).axes ≤ size
-has deep axes at size r e f g = leb-true _ _ (ap (λ (a : ℕ). leb (at + longest a) size) (sym e) ∙ sym f ∙ g)
+-- ---- a command and its call
+pub said : {R P : Type 0} (sides : R → List Side) (place : P → List Float) (o : Option (Command R P)) (c d : Command R P) → o ≡ Some c → c ≡ d → option_map (call_in sides place) o ≡ Some (call_in sides place d)
+said {R} {P} sides place o c d e f = ap (option_map (call_in sides place)) e ∙ ap (λ (b : Command R P). Some (call_in sides place b)) f
 
-pub lacks : (deep : Bool) (axes at size : ℕ) (r : Bool) → axes ≡ (kind deep).axes → r ≡ leb (at + longest axes) size → r ≡ false → size < at + longest (kind deep).axes
-lacks deep axes at size r e f g = leb-false _ _ (ap (λ (a : ℕ). leb (at + longest a) size) (sym e) ∙ sym f ∙ g)
+-- a tree is held, where a command makes none and is heard
+pub opened : {R P : Type 0} (sides : R → List Side) (place : P → List Float) (c d : Command R P) (held m : Bool) → held || m ≡ true → m ≡ makes (call_in sides place c) → c ≡ d → makes (call_in sides place d) ≡ false → held ≡ true
+opened sides place c d true m e f g h = refl
+opened {R} {P} sides place c d false m e f g h = sym (f ∙ ap (λ (b : Command R P). makes (call_in sides place b)) g ∙ h) ∙ e
 
--- ---- the lent arrays have room for 512 points of either tree
-lent_is : (deep : Bool) (cs ms : List ℕ) → length cs ≡ 12288 → length ms ≡ 2048 → room_for (kind deep).axes cs ms ≡ 512
-lent_is true cs ms e f = omega (arith, e, f)
-lent_is false cs ms e f = omega (arith, e, f)
+pub shut : (held m : Bool) → held || m ≡ false → (held ≡ false) × (m ≡ false)
+shut false m e = (refl, e)
+shut true m e = absurd (subst T e tt)
 
-module _ (deep held : Bool) (s : Pieces) (out : List ℕ) (at : ℕ) (out' : List ℕ) (r : ℕ) (low : (i : ℕ) → get_or s.points i 0 < 256) (room : at + longest (kind deep).axes ≤ length out) (e : held ≡ true) (cs ms coords' marks : List ℕ) (before : (length cs ≡ 12288) × (length ms ≡ 2048)) (after : (length coords' ≡ length cs) × (length marks ≡ length ms)) (axes reply n : ℕ) (many : axes ≡ (kind deep).axes) (puts : PutsTold axes coords' marks reply n out at out' r) where
-  ready : PutsTold (kind deep).axes coords' marks reply n out at out' r
-  ready = subst (λ (a : ℕ). PutsTold a coords' marks reply n out at out' r) many puts
+pub done_held : (k : Kind) (o : Option Call) (c : Call) (held : Bool) (s s' : Pieces) (out : List ℕ) (at : ℕ) (out' : List ℕ) (r : ℕ) → o ≡ Some c → held ≡ true → Answers k (Some c) true s true s' out at out' r → Answers k o held s held s' out at out' r
+done_held k o c held s s' out at out' r e f w =
+    subst₂ (λ (d : Option Call) (h : Bool). Answers k d h s h s' out at out' r) (sym e) (sym f) w
 
-  enough : 512 ≤ room_for (kind deep).axes coords' marks
-  enough = le_of_eq (sym (lent_is deep coords' marks (after.0 ∙ before.0) (after.1 ∙ before.1)))
+-- ---- what a yes or no, and a creation that is done, say
+pub figure_is : (k : Kind) (q : Query) (s : Pieces) (n : ℕ) (b : Bool) → n ≡ bool_byte b → AsksHeld k q s 0 (figure b) → AsksHeld k q s 0 n
+figure_is k q s n true e d = subst⁻¹ (AsksHeld k q s 0) e d
+figure_is k q s n false e d = subst⁻¹ (AsksHeld k q s 0) e d
 
-  pub radius_done : (c : Command) (x y z q : Float) → c ≡ command.Range x y z q → SearchesHeld (kind deep) (Radius (coords deep x y z) q (room_for (kind deep).axes cs ms)) s cs ms coords' marks reply n → Answers (kind deep) (call_in deep c) held s held s out at out' r
-  unfolding call_in
-  radius_done c x y z q f d =
-      answers_as (kind deep) held s out at out' r (some (Ask (Radius (coords deep x y z) q 512))) (call_in deep c) held s (ap (call_in deep) f)
-      (answers_told (kind deep) held s out at out' r (Radius (coords deep x y z) q 512) cs ms coords' marks reply n (radius_pointed (coords deep x y z) q 512) (λ a l. radius_asked (kind deep) a l (coords deep x y z) q 512) low enough room e (subst (λ (m : ℕ). SearchesHeld (kind deep) (Radius (coords deep x y z) q m) s cs ms coords' marks reply n) (lent_is deep cs ms before.0 before.1) d) ready)
+pub made : {A : Type 0} (held : Bool) (a : Result A Refusal) → held || is_ok a ≡ held || eqb (number_in a) 0
+unfolding number
+made held (Ok x) = ap (λ (b : Bool). held || b) (sym (eq-eqb (number done) 0 refl))
+made held (Err e) = ap (λ (b : Bool). held || b) (sym (ne_eqb (number (reply_of e)) 0 (refused_not e)))
 
-  pub nearest_done : (c : Command) (x y z : Float) (m : ℕ) → c ≡ command.Knn x y z m → SearchesHeld (kind deep) (Nearest (coords deep x y z) m (room_for (kind deep).axes cs ms)) s cs ms coords' marks reply n → Answers (kind deep) (call_in deep c) held s held s out at out' r
-  unfolding call_in
-  nearest_done c x y z m f d =
-      answers_as (kind deep) held s out at out' r (some (Ask (Nearest (coords deep x y z) m 512))) (call_in deep c) held s (ap (call_in deep) f)
-      (answers_told (kind deep) held s out at out' r (Nearest (coords deep x y z) m 512) cs ms coords' marks reply n (nearest_pointed (coords deep x y z) m 512) (λ a l. nearest_asked (kind deep) a l (coords deep x y z) m 512) low enough room e (subst (λ (k : ℕ). SearchesHeld (kind deep) (Nearest (coords deep x y z) m k) s cs ms coords' marks reply n) (lent_is deep cs ms before.0 before.1) d) ready)
+-- ---- searches
+-- the lent arrays have room for 512 points
+lent_is : (axes : ℕ) (cs ms : List ℕ) → 1 ≤ axes → axes ≤ 3 → length cs ≡ 12288 → length ms ≡ 2048 → room_for axes cs ms ≡ 512
+lent_is zero cs ms h l e f = absurd (omega (arith, h))
+lent_is (suc zero) cs ms h l e f = omega (arith, e, f)
+lent_is (suc (suc zero)) cs ms h l e f = omega (arith, e, f)
+lent_is (suc (suc (suc zero))) cs ms h l e f = omega (arith, e, f)
+lent_is (suc (suc (suc (suc n)))) cs ms h l e f = absurd (omega (arith, l))
 
-  pub box_done : (c : Command) (x y z width height depth : Float) → c ≡ command.Box x y z width height depth → SearchesHeld (kind deep) (Box (region deep x y z width height depth) (room_for (kind deep).axes cs ms)) s cs ms coords' marks reply n → Answers (kind deep) (call_in deep c) held s held s out at out' r
-  unfolding call_in
-  box_done c x y z width height depth f d =
-      answers_as (kind deep) held s out at out' r (some (Ask (Box (region deep x y z width height depth) 512))) (call_in deep c) held s (ap (call_in deep) f)
-      (answers_told (kind deep) held s out at out' r (Box (region deep x y z width height depth) 512) cs ms coords' marks reply n (box_pointed (region deep x y z width height depth) 512) (λ a l. box_asked (kind deep) a l (region deep x y z width height depth) 512) low enough room e (subst (λ (k : ℕ). SearchesHeld (kind deep) (Box (region deep x y z width height depth) k) s cs ms coords' marks reply n) (lent_is deep cs ms before.0 before.1) d) ready)
+module _ (k : Kind) (some : 1 ≤ k.axes) (few : k.axes ≤ 3) (s : Pieces) (out : List ℕ) (at : ℕ) (out' : List ℕ) (r : ℕ) (low : (i : ℕ) → get_or s.points i 0 < 256) (room : at + longest k.axes ≤ length out) (cs ms coords marks : List ℕ) (before : (length cs ≡ 12288) × (length ms ≡ 2048)) (after : (length coords ≡ length cs) × (length marks ≡ length ms)) (axes : ℕ) (told : Result ℕ Refusal) (many : axes ≡ k.axes) (puts : PutsTold axes coords marks (number_in told) (count_in told) out at out' r) where
+  ready : PutsTold k.axes coords marks (number_in told) (count_in told) out at out' r
+  ready = subst (λ (a : ℕ). PutsTold a coords marks (number_in told) (count_in told) out at out' r) many puts
+
+  enough : 512 ≤ room_for k.axes coords marks
+  enough = le_of_eq (sym (lent_is k.axes coords marks some few (after.0 ∙ before.0) (after.1 ∙ before.1)))
+
+  search_done : (q : ℕ → Query) → Pointed (q 512) → ((a : Plan) → All (ShapedPoint k.axes) (trees.held 32 a.root) → Asked k.axes 512 (step k (tree a) (Ask (q 512)))) → SearchesHeld k (q (room_for k.axes cs ms)) s cs ms coords marks (number_in told) (count_in told)
+      → Answers k (Some (Ask (q 512))) true s true s out at out' r
+  search_done q f asked d =
+      answers_told k true s out at out' r (q 512) cs ms coords marks (number_in told) (count_in told) f asked low enough room refl (subst (λ (m : ℕ). SearchesHeld k (q m) s cs ms coords marks (number_in told) (count_in told)) (lent_is k.axes cs ms some few before.0 before.1) d) ready
+
+  pub radius_done : (c : List Float) (q : Float) → SearchesHeld k (calls.Radius c q (room_for k.axes cs ms)) s cs ms coords marks (number_in told) (count_in told) → Answers k (Some (Ask (calls.Radius c q 512))) true s true s out at out' r
+  radius_done c q d = search_done (λ m. calls.Radius c q m) (radius_pointed c q 512) (λ a l. radius_asked k a l c q 512) d
+
+  pub nearest_done : (c : List Float) (n : ℕ) → SearchesHeld k (calls.Nearest c n (room_for k.axes cs ms)) s cs ms coords marks (number_in told) (count_in told) → Answers k (Some (Ask (calls.Nearest c n 512))) true s true s out at out' r
+  nearest_done c n d = search_done (λ m. calls.Nearest c n m) (nearest_pointed c n 512) (λ a l. nearest_asked k a l c n 512) d
+
+  pub box_done : (b : List Side) → SearchesHeld k (calls.Box b (room_for k.axes cs ms)) s cs ms coords marks (number_in told) (count_in told) → Answers k (Some (Ask (calls.Box b 512))) true s true s out at out' r
+  box_done b d = search_done (λ m. calls.Box b m) (box_pointed b 512) (λ a l. box_asked k a l b 512) d

@@ -1,2 +1,1 @@
--- What is proved of the commands' execution.
 pub mod Doing

@@ -1,329 +1,208 @@
 // What each command does, and its line.
 #![tactic(auto)]
 
-ghost use Rattle.std.specs.Prelude.{◌≡◌, ℕ, ◌+◌, ◌<◌, ◌≤◌, length, Float};
+ghost use Rattle.std.specs.Prelude.{true, ◌≡◌, ◌+◌, ◌<◌, ◌≤◌, ℕ, get_or, length, option_map, Some};
+ghost use Rattle.model.specs.Calls as calls;
 ghost use Rattle.trees.specs.Pieces.{pieces};
-ghost use Rattle.tree.specs.Depths.{kind};
-ghost use Rattle.replies.specs.Programs.{Answers, longest};
+ghost use Rattle.pieces.specs.Views.{seen};
+ghost use Rattle.replies.specs.Lines.{makes};
+ghost use Rattle.replies.specs.Programs.{Answers, IsSame, longest};
 ghost use Rattle.commands.specs.Commands.{call_in};
-ghost use Rattle.commands.specs.declared.Command.TheVariants as command;
 
-use commands::Command;
-use replies::{has_room, put_figure, put_reply, put_told};
-use tree::region::axes;
+use commands::{Command, Program};
+use geometry::region::{Place, Region};
+use pieces::{Pieces, Refusal};
+use replies::Page;
+use tree::kind::Tree;
 use tree_create::create;
 use tree_insert::insert;
 use tree_queries::{ask, search};
 
-// Whether a tree is held, and where the next line goes.
-#[derive(Clone, Copy)]
-pub struct After {
-    pub held: bool,
-    pub at: usize,
-}
-
-// Makes a tree, also where one is held. Each of these functions is called for one kind of command, and promises nothing for another.
-fn make(
-    deep: bool,
-    c: Command,
+// Makes a tree, also where one is held. Says whether one is held then.
+// Kept: a flag beside the pieces, here and for `answer`, since the pieces are there also where no tree is held.
+fn make<R: Program>(
+    bounds: R,
+    capacity: u32,
     held: bool,
     head: &mut [u8],
     nodes: &mut [u8],
     links: &mut [u8],
     points: &[u8],
-    out: &mut [u8],
-    at: usize,
-) -> After
-    requires { at + longest (kind deep).axes ≤ length out.old }
-    ensures answers { (x y z width height depth : Float) (n : ℕ) → c ≡ command.Create x y z width height depth n → Answers (kind deep) (call_in deep c) held (pieces head.old nodes.old links.old points.now) result.held (pieces head.new nodes.new links.new points.now) out.old at out.new result.at }
-    ensures within { result.at ≤ length out.old }
+    page: &mut Page<'_>,
+) -> bool
+    requires { page.old.at + longest R.kind.axes ≤ length page.old.out.now }
+    ensures same { IsSame page.old.out page.new.out }
+    ensures answers { Answers R.kind (Some (calls.Create (R.sides bounds) capacity)) held (pieces head.old nodes.old links.old points.now) result (pieces head.new nodes.new links.new points.now) page.old.out.now page.old.at page.new.out.now page.new.at }
+    ensures within { page.new.at ≤ length page.old.out.now }
 {
-    let Command::Create(x, y, z, w, h, d, n) = c else {
-        return After { held, at };
-    };
-    let reply = create::create(deep, head, nodes, links, points, x, y, z, w, h, d, n);
-    let to = put_reply(out, at, reply);
-    After {
-        held: held | (reply == 0),
-        at: to,
-    }
+    let made = create::create(head, nodes, links, points, bounds, capacity);
+    page.put_reply(made);
+    held | made.is_ok()
 }
 
-fn insert(
-    deep: bool,
-    c: Command,
-    held: bool,
+fn insert<R: Program>(
+    at: R::Point,
+    payload: u32,
     head: &[u8],
     nodes: &mut [u8],
     links: &mut [u8],
     points: &mut [u8],
-    out: &mut [u8],
-    at: usize,
-) -> usize
-    requires { at + longest (kind deep).axes ≤ length out.old }
-    ensures answers { (x y z : Float) (n : ℕ) → c ≡ command.Insert x y z n → Answers (kind deep) (call_in deep c) held (pieces head.now nodes.old links.old points.old) held (pieces head.now nodes.new links.new points.new) out.old at out.new result }
-    ensures within { result ≤ length out.old }
+    page: &mut Page<'_>,
+)
+    requires { page.old.at + longest R.kind.axes ≤ length page.old.out.now }
+    ensures same { IsSame page.old.out page.new.out }
+    ensures answers { Answers R.kind (Some (calls.Insert (record { at = R.Point.place at; payload = payload }))) true (pieces head.now nodes.old links.old points.old) true (pieces head.now nodes.new links.new points.new) page.old.out.now page.old.at page.new.out.now page.new.at }
+    ensures within { page.new.at ≤ length page.old.out.now }
 {
-    let Command::Insert(x, y, z, n) = c else {
-        return at;
-    };
-    if !held {
-        return put_reply(out, at, 10);
-    }
-    let reply = insert::insert(deep, head, nodes, links, points, x, y, z, n);
-    put_reply(out, at, reply)
+    let done = insert::insert::<R>(head, nodes, links, points, at, payload);
+    page.put_reply(done);
 }
 
-fn delete(
-    deep: bool,
-    c: Command,
-    held: bool,
+fn delete<R: Program>(
+    at: R::Point,
+    payload: u32,
     head: &[u8],
     nodes: &mut [u8],
     links: &mut [u8],
     points: &[u8],
-    out: &mut [u8],
-    at: usize,
-) -> usize
-    requires { at + longest (kind deep).axes ≤ length out.old }
-    ensures answers { (x y z : Float) (n : ℕ) → c ≡ command.Delete x y z n → Answers (kind deep) (call_in deep c) held (pieces head.now nodes.old links.old points.now) held (pieces head.now nodes.new links.new points.now) out.old at out.new result }
-    ensures within { result ≤ length out.old }
+    page: &mut Page<'_>,
+)
+    requires { page.old.at + longest R.kind.axes ≤ length page.old.out.now }
+    ensures same { IsSame page.old.out page.new.out }
+    ensures answers { Answers R.kind (Some (calls.Delete (record { at = R.Point.place at; payload = payload }))) true (pieces head.now nodes.old links.old points.now) true (pieces head.now nodes.new links.new points.now) page.old.out.now page.old.at page.new.out.now page.new.at }
+    ensures within { page.new.at ≤ length page.old.out.now }
 {
-    let Command::Delete(x, y, z, n) = c else {
-        return at;
-    };
-    if !held {
-        return put_reply(out, at, 10);
-    }
-    let reply = tree_delete::delete(deep, head, nodes, links, points, x, y, z, n);
-    put_reply(out, at, reply)
+    let done = tree_delete::delete::<R>(head, nodes, links, points, at, payload);
+    page.put_reply(done);
 }
 
-fn clear(
-    deep: bool,
-    c: Command,
-    held: bool,
+fn clear<R: Program>(
     head: &[u8],
     nodes: &mut [u8],
     links: &mut [u8],
     points: &[u8],
-    out: &mut [u8],
-    at: usize,
-) -> usize
-    requires { at + longest (kind deep).axes ≤ length out.old }
-    ensures answers { c ≡ command.Clear → Answers (kind deep) (call_in deep c) held (pieces head.now nodes.old links.old points.now) held (pieces head.now nodes.new links.new points.now) out.old at out.new result }
-    ensures within { result ≤ length out.old }
+    page: &mut Page<'_>,
+)
+    requires { page.old.at + longest R.kind.axes ≤ length page.old.out.now }
+    ensures same { IsSame page.old.out page.new.out }
+    ensures answers { Answers R.kind (Some calls.Clear) true (pieces head.now nodes.old links.old points.now) true (pieces head.now nodes.new links.new points.now) page.old.out.now page.old.at page.new.out.now page.new.at }
+    ensures within { page.new.at ≤ length page.old.out.now }
 {
-    if !held {
-        return put_reply(out, at, 10);
-    }
-    let reply = create::clear(deep, nodes, links);
-    put_reply(out, at, reply)
+    create::clear::<R>(nodes, links);
+    page.put_reply(Ok(()));
 }
 
-fn contains(
-    deep: bool,
-    c: Command,
-    held: bool,
-    head: &[u8],
-    nodes: &[u8],
-    links: &[u8],
-    points: &[u8],
-    out: &mut [u8],
-    at: usize,
-) -> usize
-    requires { at + longest (kind deep).axes ≤ length out.old }
-    ensures answers { (x y z : Float) (n : ℕ) → c ≡ command.Contains x y z n → Answers (kind deep) (call_in deep c) held (pieces head.now nodes.now links.now points.now) held (pieces head.now nodes.now links.now points.now) out.old at out.new result }
-    ensures within { result ≤ length out.old }
+fn contains<R: Program>(at: R::Point, payload: u32, tree: &Pieces<'_>, page: &mut Page<'_>)
+    requires { page.old.at + longest R.kind.axes ≤ length page.old.out.now }
+    ensures same { IsSame page.old.out page.new.out }
+    ensures answers { Answers R.kind (Some (calls.Ask (calls.Contains (record { at = R.Point.place at; payload = payload })))) true (seen tree.now) true (seen tree.now) page.old.out.now page.old.at page.new.out.now page.new.at }
+    ensures within { page.new.at ≤ length page.old.out.now }
 {
-    let Command::Contains(x, y, z, n) = c else {
-        return at;
-    };
-    if !held {
-        return put_reply(out, at, 10);
-    }
-    let yes = ask::contains(deep, head, nodes, links, points, x, y, z, n);
-    put_figure(out, at, yes)
+    let yes = ask::contains::<R>(tree, at, payload);
+    page.put_figure(u32::from(yes));
 }
 
-fn len(
-    deep: bool,
-    c: Command,
-    held: bool,
-    head: &[u8],
-    nodes: &[u8],
-    links: &[u8],
-    points: &[u8],
-    out: &mut [u8],
-    at: usize,
-) -> usize
-    requires { at + longest (kind deep).axes ≤ length out.old }
-    ensures answers { c ≡ command.Len → Answers (kind deep) (call_in deep c) held (pieces head.now nodes.now links.now points.now) held (pieces head.now nodes.now links.now points.now) out.old at out.new result }
-    ensures within { result ≤ length out.old }
+fn len<R: Program>(tree: &Pieces<'_>, page: &mut Page<'_>)
+    requires { page.old.at + longest R.kind.axes ≤ length page.old.out.now }
+    ensures same { IsSame page.old.out page.new.out }
+    ensures answers { Answers R.kind (Some (calls.Ask calls.Len)) true (seen tree.now) true (seen tree.now) page.old.out.now page.old.at page.new.out.now page.new.at }
+    ensures within { page.new.at ≤ length page.old.out.now }
 {
-    if !held {
-        return put_reply(out, at, 10);
-    }
-    let count = pieces::len(nodes);
-    put_figure(out, at, count)
+    page.put_figure(pieces::len(tree.nodes));
 }
 
 // The answer of a search has room for all points that a tree can hold.
-fn range(
-    deep: bool,
-    c: Command,
-    held: bool,
-    head: &[u8],
-    nodes: &[u8],
-    links: &[u8],
-    points: &[u8],
-    out: &mut [u8],
-    at: usize,
-) -> usize
-    requires { at + longest (kind deep).axes ≤ length out.old }
-    ensures answers { (x y z radius : Float) → c ≡ command.Range x y z radius → Answers (kind deep) (call_in deep c) held (pieces head.now nodes.now links.now points.now) held (pieces head.now nodes.now links.now points.now) out.old at out.new result }
-    ensures within { result ≤ length out.old }
+fn range<R: Program>(center: R::Point, radius: f64, tree: &Pieces<'_>, page: &mut Page<'_>)
+    requires room { page.old.at + longest R.kind.axes ≤ length page.old.out.now }
+    requires bytes { (i : ℕ) → get_or tree.now.points.now i 0 < 256 }
+    ensures same { IsSame page.old.out page.new.out }
+    ensures answers { Answers R.kind (Some (calls.Ask (calls.Radius (R.Point.place center) radius 512))) true (seen tree.now) true (seen tree.now) page.old.out.now page.old.at page.new.out.now page.new.at }
+    ensures within { page.new.at ≤ length page.old.out.now }
 {
-    let Command::Range(x, y, z, radius) = c else {
-        return at;
-    };
-    if !held {
-        return put_reply(out, at, 10);
-    }
     let mut coords: [u8; 12288] = [0; 12288];
     let mut marks: [u8; 2048] = [0; 2048];
-    let told = search::range_search(
-        deep,
-        head,
-        nodes,
-        links,
-        points,
-        x,
-        y,
-        z,
-        radius,
-        &mut coords,
-        &mut marks,
-    );
-    let many = axes(deep);
-    put_told(out, at, many, told.reply, told.count, &coords, &marks)
+    let told = search::range_search::<R>(tree, center, radius, &mut coords, &mut marks);
+    page.put_told(R::axes(), told, &coords, &marks);
 }
 
-fn knn(
-    deep: bool,
-    c: Command,
-    held: bool,
-    head: &[u8],
-    nodes: &[u8],
-    links: &[u8],
-    points: &[u8],
-    out: &mut [u8],
-    at: usize,
-) -> usize
-    requires { at + longest (kind deep).axes ≤ length out.old }
-    ensures answers { (x y z : Float) (n : ℕ) → c ≡ command.Knn x y z n → Answers (kind deep) (call_in deep c) held (pieces head.now nodes.now links.now points.now) held (pieces head.now nodes.now links.now points.now) out.old at out.new result }
-    ensures within { result ≤ length out.old }
+fn knn<R: Program>(target: R::Point, k: u32, tree: &Pieces<'_>, page: &mut Page<'_>)
+    requires room { page.old.at + longest R.kind.axes ≤ length page.old.out.now }
+    requires bytes { (i : ℕ) → get_or tree.now.points.now i 0 < 256 }
+    ensures same { IsSame page.old.out page.new.out }
+    ensures answers { Answers R.kind (Some (calls.Ask (calls.Nearest (R.Point.place target) k 512))) true (seen tree.now) true (seen tree.now) page.old.out.now page.old.at page.new.out.now page.new.at }
+    ensures within { page.new.at ≤ length page.old.out.now }
 {
-    let Command::Knn(x, y, z, k) = c else {
-        return at;
-    };
-    if !held {
-        return put_reply(out, at, 10);
-    }
     let mut coords: [u8; 12288] = [0; 12288];
     let mut marks: [u8; 2048] = [0; 2048];
-    let told = search::knn_search(
-        deep,
-        head,
-        nodes,
-        links,
-        points,
-        x,
-        y,
-        z,
-        k,
-        &mut coords,
-        &mut marks,
-    );
-    let many = axes(deep);
-    put_told(out, at, many, told.reply, told.count, &coords, &marks)
+    let told = search::knn_search::<R>(tree, target, k, &mut coords, &mut marks);
+    page.put_told(R::axes(), told, &coords, &marks);
 }
 
-fn area(
-    deep: bool,
-    c: Command,
-    held: bool,
-    head: &[u8],
-    nodes: &[u8],
-    links: &[u8],
-    points: &[u8],
-    out: &mut [u8],
-    at: usize,
-) -> usize
-    requires { at + longest (kind deep).axes ≤ length out.old }
-    ensures answers { (x y z width height depth : Float) → c ≡ command.Box x y z width height depth → Answers (kind deep) (call_in deep c) held (pieces head.now nodes.now links.now points.now) held (pieces head.now nodes.now links.now points.now) out.old at out.new result }
-    ensures within { result ≤ length out.old }
+fn area<R: Program>(query: R, tree: &Pieces<'_>, page: &mut Page<'_>)
+    requires room { page.old.at + longest R.kind.axes ≤ length page.old.out.now }
+    requires bytes { (i : ℕ) → get_or tree.now.points.now i 0 < 256 }
+    ensures same { IsSame page.old.out page.new.out }
+    ensures answers { Answers R.kind (Some (calls.Ask (calls.Box (R.sides query) 512))) true (seen tree.now) true (seen tree.now) page.old.out.now page.old.at page.new.out.now page.new.at }
+    ensures within { page.new.at ≤ length page.old.out.now }
 {
-    let Command::Box(x, y, z, w, h, d) = c else {
-        return at;
-    };
-    if !held {
-        return put_reply(out, at, 10);
-    }
     let mut coords: [u8; 12288] = [0; 12288];
     let mut marks: [u8; 2048] = [0; 2048];
-    let told = search::range_search_bbox(
-        deep,
-        head,
-        nodes,
-        links,
-        points,
-        x,
-        y,
-        z,
-        w,
-        h,
-        d,
-        &mut coords,
-        &mut marks,
-    );
-    let many = axes(deep);
-    put_told(out, at, many, told.reply, told.count, &coords, &marks)
+    let told = search::range_search_bbox::<R>(tree, query, &mut coords, &mut marks);
+    page.put_told(R::axes(), told, &coords, &marks);
 }
 
-// Answers a command, where there is room for the longest line.
-pub fn answer(
-    deep: bool,
-    c: Command,
+// Whether a command makes a tree, so that none need be held.
+#[tactic(auto, unfolding(commands::specs::Commands::call_in, replies::specs::Lines::makes))]
+fn makes<R: Program>(command: Command<R, R::Point>) -> bool
+    ensures { result ≡ makes (call_in R.sides R.Point.place command) }
+{
+    matches!(command, Command::Create(..))
+}
+
+// Answers a command, or a record that is not understood, where there is room for the longest line. Says whether a tree is held then.
+pub fn answer<R: Program>(
+    command: Option<Command<R, R::Point>>,
     held: bool,
     head: &mut [u8],
     nodes: &mut [u8],
     links: &mut [u8],
     points: &mut [u8],
-    out: &mut [u8],
-    at: usize,
-) -> After
-    ensures answers { at + longest (kind deep).axes ≤ length out.old → Answers (kind deep) (call_in deep c) held (pieces head.old nodes.old links.old points.old) result.held (pieces head.new nodes.new links.new points.new) out.old at out.new result.at }
-    ensures full { length out.old < at + longest (kind deep).axes → (result.held ≡ held) × (result.at ≡ at) × ((pieces head.new nodes.new links.new points.new) ≡ (pieces head.old nodes.old links.old points.old)) × (out.new ≡ out.old) }
-    ensures within { at ≤ length out.old → result.at ≤ length out.old }
+    page: &mut Page<'_>,
+) -> bool
+    ensures same { IsSame page.old.out page.new.out }
+    ensures answers { page.old.at + longest R.kind.axes ≤ length page.old.out.now → Answers R.kind (option_map (call_in R.sides R.Point.place) command) held (pieces head.old nodes.old links.old points.old) result (pieces head.new nodes.new links.new points.new) page.old.out.now page.old.at page.new.out.now page.new.at }
+    ensures full { length page.old.out.now < page.old.at + longest R.kind.axes → (result ≡ held) × (page.new.at ≡ page.old.at) × ((pieces head.new nodes.new links.new points.new) ≡ (pieces head.old nodes.old links.old points.old)) × (page.new.out.now ≡ page.old.out.now) }
+    ensures within { page.old.at ≤ length page.old.out.now → page.new.at ≤ length page.old.out.now }
 {
-    let many = axes(deep);
-    if !has_room(many, out, at) {
-        return After { held, at };
+    if !page.has_room(R::axes()) {
+        return held;
     }
-    let to = match c {
-        Command::Create(..) => {
-            return make(deep, c, held, head, nodes, links, points, out, at);
-        }
-        Command::Insert(..) => insert(deep, c, held, head, nodes, links, points, out, at),
-        Command::Delete(..) => delete(deep, c, held, head, nodes, links, points, out, at),
-        Command::Contains(..) => contains(deep, c, held, head, nodes, links, points, out, at),
-        Command::Range(..) => range(deep, c, held, head, nodes, links, points, out, at),
-        Command::Knn(..) => knn(deep, c, held, head, nodes, links, points, out, at),
-        Command::Box(..) => area(deep, c, held, head, nodes, links, points, out, at),
-        Command::Len => len(deep, c, held, head, nodes, links, points, out, at),
-        Command::Clear => clear(deep, c, held, head, nodes, links, points, out, at),
-        Command::Bad => put_reply(out, at, 9),
+    let Some(command) = command else {
+        page.put_reply(Err(Refusal::NotUnderstood));
+        return held;
     };
-    After { held, at: to }
+    if !(held | makes(command)) {
+        page.put_reply(Err(Refusal::NoTree));
+        return held;
+    }
+    let tree = Pieces {
+        head,
+        nodes,
+        links,
+        points,
+    };
+    match command {
+        Command::Create(bounds, capacity) => {
+            return make(bounds, capacity, held, head, nodes, links, points, page);
+        }
+        Command::Insert(at, payload) => insert::<R>(at, payload, head, nodes, links, points, page),
+        Command::Delete(at, payload) => delete::<R>(at, payload, head, nodes, links, points, page),
+        Command::Contains(at, payload) => contains::<R>(at, payload, &tree, page),
+        Command::Range(center, radius) => range::<R>(center, radius, &tree, page),
+        Command::Knn(target, k) => knn::<R>(target, k, &tree, page),
+        Command::Box(query) => area(query, &tree, page),
+        Command::Len => len::<R>(&tree, page),
+        Command::Clear => clear::<R>(head, nodes, links, points, page),
+    }
+    held
 }

@@ -8,3 +8,4 @@ pub mod Span
 pub mod Bounds
 pub mod Patterns
 pub mod Theorems
+pub mod Library

@@ -75,19 +75,19 @@ code f nan = 0
 code f (inf s) = ones f * hid f
 code f (fin s m e) = pattern (prec f) (hid f) (mag f (fin s m e))
 
-to_bits_code : (f : Format) (x : Float) → T (num? x) → to_bits f x ≡ cond (sgn x) (top f) 0 + code f x
+pub to_bits_code : (f : Format) (x : Float) → T (num? x) → to_bits f x ≡ cond (sgn x) (top f) 0 + code f x
 unfolding to_bits
 to_bits_code f nan u = absurd u
 to_bits_code f (inf s) u = refl
 to_bits_code f (fin s m e) u = add_assoc (cond s (top f) 0) ((size (mag f (fin s m e)) - prec f) * hid f) (mag f (fin s m e) / 2 ^ (size (mag f (fin s m e)) - prec f))
 
-code_most : (f : Format) (x : Float) → T (fits f x) → code f x ≤ ones f * hid f
+pub code_most : (f : Format) (x : Float) → T (fits f x) → code f x ≤ ones f * hid f
 code_most f nan p = zero-le
 code_most f (inf s) p = le_refl (ones f * hid f)
 code_most f (fin s m e) p = le_of_lt (pattern_lt f (mag f (fin s m e)) (mag_lt f s m e p))
 
 -- an infinity's pattern is below the sign's bit
-ones_lt_top : (f : Format) → ones f * hid f < top f
+pub ones_lt_top : (f : Format) → ones f * hid f < top f
 ones_lt_top f = under (ones f) (hid f) (pow_pos (prec f - 1))
   where
     under : (o h : ℕ) → 0 < h → o * h < h * suc o
@@ -144,7 +144,7 @@ pub record Read (f : Format) (s : Bool) (c : ℕ) (y : Float) : Type 0 where
   pub sign : sgn y ≡ s
   pub same : code f y ≡ c
 
-signed_mod : (f : Format) (s : Bool) (c : ℕ) → c ≤ ones f * hid f → (cond s (top f) 0 + c) % top f ≡ c
+pub signed_mod : (f : Format) (s : Bool) (c : ℕ) → c ≤ ones f * hid f → (cond s (top f) 0 + c) % top f ≡ c
 signed_mod f true c h = add-mod_left (top f) c ∙ mod-eq_of_lt (lt_of_le_of_lt h (ones_lt_top f))
 signed_mod f false c h = ap (λ (k : ℕ). k % top f) (zero-add c) ∙ mod-eq_of_lt (lt_of_le_of_lt h (ones_lt_top f))
 
@@ -347,12 +347,6 @@ below_bits f x b = ap (λ (k : ℕ). k - 1) (to_bits_code f x b.num_x ∙ ap (λ
   where
     less : (t c : ℕ) → 0 < c → t + c - 1 ≡ t + (c - 1)
     less t c h = omega arith
-
-pub below_some : (f : Format) (x : Float) → Below f x → 1 ≤ to_bits f x
-below_some f x b = le_trans (more (cond (sgn x) (top f) 0) (code f x) b.some) (le_of_eq (sym (to_bits_code f x b.num_x)))
-  where
-    more : (a c : ℕ) → 0 < c → 1 ≤ a + c
-    more a c h = omega arith
 
 pub under_bits : (f : Format) (x : Float) → T (fits f x) → (b : Under f x) → to_bits f x % top f + 1 ≡ 0 + (code f x + 1)
 under_bits f x p b =

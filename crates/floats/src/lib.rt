@@ -6,40 +6,26 @@ ghost use Rattle.std.specs.Float.{binary64};
 ghost use Rattle.std.specs.Float.Ieee.{of_bits, to_bits};
 ghost use Rattle.floats.specs.Next.{next_up};
 
-const SIGN: u64 = 0x8000_0000_0000_0000;
-
-const INFINITY: u64 = 0x7ff0_0000_0000_0000;
-
-const QUIET_NAN: u64 = 0x7ff8_0000_0000_0000;
+use std::num::{f64_from_bits_with_nan, f64_to_bits_with_nan};
 
 // The bits of x. A NaN in compiled code may have any of its patterns, so one is fixed here.
 pub fn to_bits(x: f64) -> u64
     ensures { result ≡ to_bits binary64 x }
 {
-    if x != x { QUIET_NAN } else { f64::to_bits(x) }
+    f64_to_bits_with_nan(x)
 }
 
-// The number that the bits stand for. `f64::from_bits` is not defined at the patterns of a NaN.
+// The number that the bits stand for; `f64::from_bits` is not defined at the patterns of a NaN.
 pub fn from_bits(b: u64) -> f64
     ensures { result ≡ of_bits binary64 b }
 {
-    if b % SIGN > INFINITY {
-        0.0 / 0.0
-    } else {
-        f64::from_bits(b)
-    }
+    f64_from_bits_with_nan(b)
 }
 
 // The least number above x; +∞ and a NaN stay.
+#[tactic(auto, using(crate::proofs::Library::as_library))]
 pub fn next_up(x: f64) -> f64
     ensures { result ≡ next_up binary64 x }
 {
-    let b = to_bits(x);
-    if x < 0.0 {
-        return from_bits(b - 1);
-    }
-    if x < f64::from_bits(INFINITY) {
-        return from_bits(b % SIGN + 1);
-    }
-    x
+    x.next_up()
 }

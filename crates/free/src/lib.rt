@@ -6,7 +6,7 @@ ghost use Rattle.words.specs.Words.{words};
 ghost use Rattle.pool.specs.Writes.{popped, pushed, taken, given};
 ghost use Rattle.pool.specs.Meanings.{TakesPlace, GivesPlace, TakesGroup, GivesGroup};
 
-use pool::{child, group, next, set_field};
+use pool::{Word, child, group, next, set_field};
 use words::{get, put};
 
 // Takes the first free place: 0 where there is none. Word 0 of the links is then 0, and is its own next.
@@ -30,6 +30,7 @@ pub fn give_place(links: &mut [u8], p: u32)
     put(links, 0, p);
 }
 
+// Kept: the one slice that is read or written with `ways` beside it, here and for `has_groups`, and not a `Pool`: who only reads has shared slices, and a contract over one slice is shorter.
 // Takes the first free group: 0 where there is none. The header is node 0, so that group 0 is then its own next.
 pub fn take_group(nodes: &mut [u8], ways: u8) -> u32
     ensures value { (result ≡ get_or (words nodes.old) 0 0) × (words nodes.new ≡ taken ways (words nodes.old)) }
@@ -49,6 +50,6 @@ pub fn give_group(nodes: &mut [u8], ways: u8, k: u32)
 {
     let h = get(nodes, 0);
     let j = child(ways, k, 0);
-    set_field(nodes, j, 0, h);
+    set_field(nodes, j, Word::Group, h);
     put(nodes, 0, k);
 }

@@ -1,10 +1,12 @@
 // Three axes: the cube and the point of the octree.
 ghost use Rattle.std.specs.Prelude.{◌≡◌};
-ghost use Rattle.model.specs.Boxes.{inside, meets, same_place, route, part, squared, node_distance};
+ghost use Rattle.model.specs.Boxes.{side};
 ghost use Rattle.geometry.specs.Sides.{sides3, place3};
 
-use axis;
+use crate::region::{Place, Region};
+use axis::Side;
 
+// Kept: each axis by a field of its own, here and in the other box, as the Rust names them and as C lays them out.
 #[repr(C)]
 #[derive(Clone, Copy)]
 pub struct Point3D {
@@ -24,17 +26,46 @@ pub struct Cube {
     pub depth: f64,
 }
 
-impl Point3D {
-    // Whether all coordinates are equal as floats.
-    pub fn same(self, other: Point3D) -> bool
-        ensures { result ≡ same_place (place3 self) (place3 other) }
+impl Cube {
+    fn x_side(self) -> Side
+        ensures { side result.corner result.extent ≡ side self.x self.width }
     {
+        Side {
+            corner: self.x,
+            extent: self.width,
+        }
+    }
+
+    fn y_side(self) -> Side
+        ensures { side result.corner result.extent ≡ side self.y self.height }
+    {
+        Side {
+            corner: self.y,
+            extent: self.height,
+        }
+    }
+
+    fn z_side(self) -> Side
+        ensures { side result.corner result.extent ≡ side self.z self.depth }
+    {
+        Side {
+            corner: self.z,
+            extent: self.depth,
+        }
+    }
+}
+
+impl Place for Point3D {
+    ghost place = { place3 };
+
+    fn numbers(self) {}
+
+    // Whether all coordinates are equal as floats.
+    fn same(self, other: Point3D) -> bool {
         (self.x == other.x) & ((self.y == other.y) & (self.z == other.z))
     }
 
-    pub fn distance_sq(self, other: Point3D) -> f64
-        ensures { result ≡ squared (place3 self) (place3 other) }
-    {
+    fn distance_sq(self, other: Point3D) -> f64 {
         let dx = self.x - other.x;
         let dy = self.y - other.y;
         let dz = self.z - other.z;
@@ -42,56 +73,50 @@ impl Point3D {
     }
 }
 
-impl Cube {
-    pub fn contains(self, point: Point3D) -> bool
-        ensures { result ≡ inside (sides3 self) (place3 point) }
-    {
-        axis::holds(self.x, self.width, point.x)
-            & (axis::holds(self.y, self.height, point.y) & axis::holds(self.z, self.depth, point.z))
+impl Region for Cube {
+    type Point = Point3D;
+
+    ghost sides = { sides3 };
+
+    fn numbers(self) {}
+
+    fn contains(self, point: Point3D) -> bool {
+        self.x_side().holds(point.x) & (self.y_side().holds(point.y) & self.z_side().holds(point.z))
     }
 
-    pub fn intersects(self, other: Cube) -> bool
-        ensures { result ≡ meets (sides3 self) (sides3 other) }
-    {
-        axis::touches(self.x, self.width, other.x, other.width)
-            & (axis::touches(self.y, self.height, other.y, other.height)
-                & axis::touches(self.z, self.depth, other.z, other.depth))
+    fn intersects(self, other: Cube) -> bool {
+        self.x_side().touches(other.x_side())
+            & (self.y_side().touches(other.y_side()) & self.z_side().touches(other.z_side()))
     }
 
     // The number of the octant that a point goes to: bit 0 is the high side of x, bit 1 of y, bit 2 of z.
-    pub fn child_index(self, point: Point3D) -> usize
-        ensures { result ≡ route (sides3 self) (place3 point) }
-    {
-        let x = axis::turn(self.x, self.width, point.x);
-        let y = axis::turn(self.y, self.height, point.y);
-        let z = axis::turn(self.z, self.depth, point.z);
+    fn child_index(self, point: Point3D) -> usize {
+        let x = self.x_side().turn(point.x);
+        let y = self.y_side().turn(point.y);
+        let z = self.z_side().turn(point.z);
         x + 2 * (y + 2 * z)
     }
 
     // The octant with the number i, of which only the three lowest bits count.
-    pub fn child(self, i: usize) -> Cube
-        ensures { sides3 result ≡ part (sides3 self) i }
-    {
-        let x = i % 2 == 1;
-        let y = i / 2 % 2 == 1;
-        let z = i / 2 / 2 % 2 == 1;
+    fn child(self, i: usize) -> Cube {
+        let x = self.x_side().half(i % 2 == 1);
+        let y = self.y_side().half(i / 2 % 2 == 1);
+        let z = self.z_side().half(i / 2 / 2 % 2 == 1);
         Cube {
-            x: axis::half_corner(x, self.x, self.width),
-            y: axis::half_corner(y, self.y, self.height),
-            z: axis::half_corner(z, self.z, self.depth),
-            width: axis::half_extent(x, self.x, self.width),
-            height: axis::half_extent(y, self.y, self.height),
-            depth: axis::half_extent(z, self.z, self.depth),
+            x: x.corner,
+            y: y.corner,
+            z: z.corner,
+            width: x.extent,
+            height: y.extent,
+            depth: z.extent,
         }
     }
 
     // The axis distances, squared and added: no more than the squared distance of any finite point inside, for a centre without NaN.
-    pub fn min_distance_sq(self, point: Point3D) -> f64
-        ensures { result ≡ node_distance (sides3 self) (place3 point) }
-    {
-        let dx = axis::axis_distance(point.x, self.x, self.width);
-        let dy = axis::axis_distance(point.y, self.y, self.height);
-        let dz = axis::axis_distance(point.z, self.z, self.depth);
+    fn min_distance_sq(self, point: Point3D) -> f64 {
+        let dx = self.x_side().distance(point.x);
+        let dy = self.y_side().distance(point.y);
+        let dz = self.z_side().distance(point.z);
         dx * dx + dy * dy + dz * dz
     }
 }

@@ -3,31 +3,22 @@ use Prim.Native.Nat.{ℕ, suc, ◌+◌, ◌*◌, ◌≤◌, ◌<◌}
 use mathlib.Core.Path.{◌≡◌, refl, sym, ap, ◌∙◌}
 use mathlib.Core.Bool.{Bool, true, false, cond}
 use mathlib.Core.List.{List, [], ◌∷◌, ◌++◌}
+use native.Mathlib.Numerals.{add-one}
 use native.Mathlib.Omega.{arith}
-use lib.Ieee.{Float, binary64, to_bits}
-use lib.ListN.{length, set, length-append}
-use lib.Seq.{sets, length-sets}
+use lib.Ieee.{Float, binary64, nan, to_bits}
+use lib.ListN.{length, get_or, set, drop, length-append, length-drop, drop_of_length-le}
+use lib.Seq.{sets, drop-cons, length-sets}
 use mir.Val.{bool_byte}
 use borrow.Author.Tests.{lt-ltb, le-ltb}
+use Rattle.std.specs.Prelude.{Option, None, Some}
 use Rattle.record.proofs.Parts.{by_lt}
 use Rattle.record.proofs.Round.{spelt_length}
-use Rattle.record.specs.Numbers.{glyph, spelt, hex}
-use Rattle.geometry.specs.Sides.{sides2, sides3}
-use Rattle.geometry.specs.declared.plane.Rectangle.{Rectangle}
-use Rattle.geometry.specs.declared.space.Cube.{Cube}
-use Rattle.geometry_answers.specs.Shown.{Said, Mark, number, yes, boxed, said_in, fields, shown, line}
+use Rattle.record.specs.Numbers.{spelt, hex}
+use Rattle.geometry_answers.specs.Shown.{Said, Floats, Mark, yes, boxed, said_in, fields, shown, line}
 use Rattle.geometry_answers.specs.declared.Answer.{Answer}
 use Rattle.geometry_answers.specs.declared.Answer.TheVariants as answer
 
--- ---- digits
-pub glyph_low : (d : ℕ) → d < 10 → 48 + d ≡ glyph d
-unfolding glyph
-glyph_low d h = simp (lt-ltb d 10 h)
-
-pub glyph_high : (d : ℕ) → 10 ≤ d → 55 + d ≡ glyph d
-unfolding glyph
-glyph_high d h = simp (le-ltb d 10 h)
-
+-- ---- one character
 pub byte_small : (t : Bool) → bool_byte t ≤ 1
 byte_small true = omega arith
 byte_small false = omega arith
@@ -53,41 +44,40 @@ put_length : (x : Float) (b : ℕ) → length (hex x ++ (b ∷ [])) ≡ 17
 unfolding hex
 put_length x b = omega (arith, length-append (spelt 16 16 (to_bits binary64 x)) (b ∷ []), spelt_length 16 16 (to_bits binary64 x))
 
-pub field_last : (x : Float) (o o' : List ℕ) (at : ℕ) → o' ≡ sets o at (hex x ++ (10 ∷ [])) → o' ≡ sets o at (fields (x ∷ []))
+-- ---- the loop over the numbers, of which i are written
+number_then : (x : Float) (l : List Float) (end : ℕ) (o : List ℕ) (at : ℕ) → (0 < length l → end ≡ 44) → (length l ≤ 0 → end ≡ 10) → sets (sets o at (hex x ++ (end ∷ []))) (at + 17) (fields l) ≡ sets o at (fields (x ∷ l))
 unfolding fields
-field_last x o o' at e = e
-
-pub field_then : (x y : Float) (l : List Float) (o o₁ o₂ : List ℕ) (at r : ℕ) → o₁ ≡ sets o at (hex x ++ (44 ∷ [])) → r ≡ at + 17 → o₂ ≡ sets o₁ r (fields (y ∷ l)) → o₂ ≡ sets o at (fields (x ∷ y ∷ l))
-unfolding fields
-field_then x y l o o₁ o₂ at r e f g =
-    let k : r ≡ at + length (hex x ++ (44 ∷ [])) = omega (arith, f, put_length x 44) in
-    g ∙ ap (λ (j : ℕ). sets o₁ j (fields (y ∷ l))) k ∙ ap (λ (m : List ℕ). sets m (at + length (hex x ++ (44 ∷ []))) (fields (y ∷ l))) e
+number_then x [] end o at e f = ap (λ (b : ℕ). sets o at (hex x ++ (b ∷ []))) (f (omega arith))
+number_then x (y ∷ l) end o at e f =
+    ap (λ (b : ℕ). sets (sets o at (hex x ++ (b ∷ []))) (at + 17) (fields (y ∷ l))) (e (omega arith))
+    ∙ ap (λ (k : ℕ). sets (sets o at (hex x ++ (44 ∷ []))) (at + k) (fields (y ∷ l))) (sym (put_length x 44))
     ∙ sym (sets_append (hex x ++ (44 ∷ [])) (fields (y ∷ l)) o at)
+
+pub numbers_step : (l : List Float) (i end : ℕ) (o o' o₀ : List ℕ) → i < length l → (i + 1 < length l → end ≡ 44) × (length l ≤ i + 1 → end ≡ 10) → o' ≡ sets o (17 * i) (hex (get_or l i nan) ++ (end ∷ [])) → sets o (17 * i) (fields (drop i l)) ≡ sets o₀ 0 (fields l)
+    → sets o' (17 * (i + 1)) (fields (drop (i + 1) l)) ≡ sets o₀ 0 (fields l)
+numbers_step l i end o o' o₀ h e w q =
+    ap (λ (u : List ℕ). sets u (17 * (i + 1)) (fields (drop (i + 1) l))) w
+    ∙ ap (λ (k : ℕ). sets (sets o (17 * i) (hex (get_or l i nan) ++ (end ∷ []))) k (fields (drop (i + 1) l))) {x = 17 * (i + 1)} {y = 17 * i + 17} (omega arith)
+    ∙ number_then (get_or l i nan) (drop (i + 1) l) end o (17 * i) (λ k. e.0 (omega (arith, k, length-drop (i + 1) l))) (λ k. e.1 (omega (arith, k, length-drop (i + 1) l)))
+    ∙ ap (λ (m : List Float). sets o (17 * i) (fields m)) (ap (λ (k : ℕ). get_or l i nan ∷ drop k l) (add-one i) ∙ sym (drop-cons l i nan h)) ∙ q
+
+pub numbers_none : (l : List Float) (i : ℕ) (o : List ℕ) → length l ≤ i → sets o (17 * i) (fields (drop i l)) ≡ o
+unfolding fields
+numbers_none l i o h = rw (drop_of_length-le l h)
 
 pub fields_length : (x : Float) (l : List Float) → length (fields (x ∷ l)) ≡ 17 + 17 * length l
 unfolding fields
 fields_length x [] = put_length x 10
 fields_length x (y ∷ l) = omega (arith, length-append (hex x ++ (44 ∷ [])) (fields (y ∷ l)), put_length x 44, fields_length y l)
 
-pub number_line : (x : Float) (o o' : List ℕ) → o' ≡ sets o 0 (hex x ++ (10 ∷ [])) → o' ≡ sets o 0 (shown (number x))
-unfolding shown
-number_line x o o' e = field_last x o o' 0 e
-
-pub number_length : (x : Float) → length (shown (number x)) ≡ 17
-unfolding shown
-number_length x = fields_length x []
-
 pub yes_line : (t : Bool) (o o' : List ℕ) → o' ≡ sets o 0 ((48 + bool_byte t) ∷ 10 ∷ []) → o' ≡ sets o 0 (shown (yes t))
 unfolding shown
 yes_line t o o' e = e ∙ ap (λ (b : ℕ). sets o 0 (b ∷ 10 ∷ [])) (yes_is t)
 
-pub quadrant_length : (r : Rectangle) → length (shown (boxed (sides2 r))) ≡ 68
-unfolding shown boxed
-quadrant_length r = fields_length r.x (r.y ∷ r.width ∷ r.height ∷ [])
-
-pub octant_length : (c : Cube) → length (shown (boxed (sides3 c))) ≡ 102
-unfolding shown boxed
-octant_length c = fields_length c.x (c.y ∷ c.z ∷ c.width ∷ c.height ∷ c.depth ∷ [])
+pub numbers_length : (l : List Float) → length (shown (Floats l)) ≡ 17 * length l
+unfolding shown fields
+numbers_length [] = refl
+numbers_length (x ∷ l) = omega (arith, fields_length x l)
 
 -- ---- a line
 line_none : (o : List ℕ) (s : Said) → length o < 128 → line o s ≡ []
@@ -101,26 +91,26 @@ line_is o s h = simp (le-ltb (length o) 128 h)
 pub line_none_written : (o : List ℕ) (s : Said) → length o < 128 → (o ≡ sets o 0 (line o s)) × (0 ≡ length (line o s))
 line_none_written o s h = (ap (λ (t : List ℕ). sets o 0 t) (sym (line_none o s h)), ap (λ (t : List ℕ). length t) (sym (line_none o s h)))
 
-pub line_written : (o o' : List ℕ) (a b : Answer) (r : ℕ) → a ≡ b → 128 ≤ length o → o' ≡ sets o 0 (shown (said_in b)) → r ≡ length (shown (said_in b)) → (o' ≡ sets o 0 (line o (said_in a))) × (r ≡ length (line o (said_in a)))
+pub line_written : (o o' : List ℕ) (a b : Option Answer) (r : ℕ) → a ≡ b → 128 ≤ length o → o' ≡ sets o 0 (shown (said_in b)) → r ≡ length (shown (said_in b)) → (o' ≡ sets o 0 (line o (said_in a))) × (r ≡ length (line o (said_in a)))
 line_written o o' a b r q h e f =
-    let k : shown (said_in b) ≡ line o (said_in a) = ap (λ (x : Answer). shown (said_in x)) (sym q) ∙ sym (line_is o (said_in a) h) in
+    let k : shown (said_in b) ≡ line o (said_in a) = ap (λ (x : Option Answer). shown (said_in x)) (sym q) ∙ sym (line_is o (said_in a) h) in
     (e ∙ ap (λ (t : List ℕ). sets o 0 t) k, f ∙ ap (λ (t : List ℕ). length t) k)
 
 mark_short : (b : ℕ) → length (shown (Mark b)) ≤ 128
 unfolding shown
 mark_short b = omega arith
 
-shown_short : (a : Answer) → length (shown (said_in a)) ≤ 128
-unfolding said_in
-shown_short (answer.Number x) = omega (arith, number_length x)
-shown_short (answer.Yes t) = mark_short _
-shown_short (answer.Child i) = mark_short _
-shown_short (answer.Quadrant r) = omega (arith, quadrant_length r)
-shown_short (answer.Octant c) = omega (arith, octant_length c)
-shown_short answer.Unknown = mark_short 63
+shown_short : (a : Option Answer) → length (shown (said_in a)) ≤ 128
+unfolding said_in boxed
+shown_short None = mark_short 63
+shown_short (Some (answer.Number x)) = omega (arith, numbers_length (x ∷ []))
+shown_short (Some (answer.Yes t)) = mark_short _
+shown_short (Some (answer.Child i)) = mark_short _
+shown_short (Some (answer.Quadrant r)) = omega (arith, numbers_length (r.x ∷ r.y ∷ r.width ∷ r.height ∷ []))
+shown_short (Some (answer.Octant c)) = omega (arith, numbers_length (c.x ∷ c.y ∷ c.z ∷ c.width ∷ c.height ∷ c.depth ∷ []))
 
 -- no line is longer than the bytes
-pub line_fits : (o o' : List ℕ) (a : Answer) (r : ℕ) → o' ≡ sets o 0 (line o (said_in a)) → r ≡ length (line o (said_in a)) → r ≤ length o'
+pub line_fits : (o o' : List ℕ) (a : Option Answer) (r : ℕ) → o' ≡ sets o 0 (line o (said_in a)) → r ≡ length (line o (said_in a)) → r ≤ length o'
 line_fits o o' a r e f =
     let k : length o' ≡ length o = ap (λ (t : List ℕ). length t) e ∙ length-sets o 0 (line o (said_in a)) in
     by_lt (length o) 128

@@ -1,10 +1,10 @@
 -- What an answer says, and its line. Definitions only.
-use Rattle.std.specs.Prelude.{ℕ, ◌+◌, ◌%◌, Bool, cond, List, [], ◌∷◌, ◌++◌, map, ltb, Float, length}
+use Rattle.std.specs.Prelude.{ℕ, ◌+◌, ◌%◌, Bool, cond, List, [], ◌∷◌, ◌++◌, map, ltb, Float, length, Option, None, Some}
 use Rattle.model.specs.Boxes.{Side}
 use Rattle.geometry.specs.Sides.{sides2, sides3}
 use Rattle.record.specs.Numbers.{hex}
 use Rattle.geometry_answers.specs.declared.Answer.{Answer}
-use Rattle.geometry_answers.specs.declared.Answer.TheVariants.{Number, Yes, Child, Quadrant, Octant, Unknown}
+use Rattle.geometry_answers.specs.declared.Answer.TheVariants.{Number, Yes, Child, Quadrant, Octant}
 
 -- numbers, or one character
 pub data Said : Type 0 where
@@ -29,14 +29,15 @@ boxed b = Floats (map (λ s. s.corner) b ++ map (λ s. s.extent) b)
 abbrev pub unknown : Said
 unknown = Mark 63
 
-unfoldable pub said_in : Answer → Said
+-- what an answer says, and a question mark where there is none
+unfoldable pub said_in : Option Answer → Said
 unfolding boxed
-said_in (Number x) = number x
-said_in (Yes t) = yes t
-said_in (Child i) = child i
-said_in (Quadrant r) = boxed (sides2 r)
-said_in (Octant c) = boxed (sides3 c)
-said_in Unknown = unknown
+said_in None = unknown
+said_in (Some (Number x)) = number x
+said_in (Some (Yes t)) = yes t
+said_in (Some (Child i)) = child i
+said_in (Some (Quadrant r)) = boxed (sides2 r)
+said_in (Some (Octant c)) = boxed (sides3 c)
 
 -- the hex digits of each float: a comma stands after each but the last, and after that one the line ends
 unfoldable pub fields : List Float → List ℕ

@@ -3,8 +3,7 @@ use Prim.Native.Nat.{ℕ, ◌-◌, ◌/◌, ◌%◌, ◌≤◌, ◌<◌}
 use mathlib.Core.Path.{◌≡◌, refl, sym, ap, ◌∙◌, subst}
 use mathlib.Core.Bool.{Bool, true, false}
 use mathlib.Core.List.{List, []}
-use mathlib.Core.Option.{Option, none, some}
-use native.Mathlib.Nat.{sub-zero}
+use Rattle.std.specs.Prelude.{Option, None, Some}
 use native.Mathlib.Omega.{arith}
 use lib.Dec.{eqb, ltb}
 use lib.Ieee.{Float}
@@ -14,8 +13,6 @@ use borrow.Author.Tests.{ne_eqb}
 use Rattle.record.specs.Text.{split}
 use Rattle.record.specs.Commands.{Numbers, numbers_of}
 use Rattle.record.specs.Read.{Reads, rest}
-use Rattle.record.specs.declared.numbers.Whole.{Whole}
-use Rattle.record.specs.declared.numbers.Whole.TheVariants as whole
 use Rattle.record.proofs.Parts.{rest_is, split_rest}
 use Rattle.record.proofs.Reading.{array_read, numbers_not, numbers_read}
 use Rattle.geometry_answers.specs.Shown.{Said, unknown}
@@ -23,13 +20,13 @@ use Rattle.geometry_questions.specs.Asked.{answer, asked, parts, places, questio
 
 -- what is answered to the numbers, if there are any
 by_numbers : (child : Bool) (n : ℕ) (w : List ℕ) → Option Numbers → Said
-by_numbers child n w none = unknown
-by_numbers child n w (some m) = answer (table child m.whole) n w (sets places 0 m.floats)
+by_numbers child n w None = unknown
+by_numbers child n w (Some m) = answer (table child m.whole) n w (sets places 0 m.floats)
 
-by_cases : (child : Bool) (n : ℕ) (w : List ℕ) (o : Option Numbers) → by_numbers child n w o ≡ elim o as (λ z. Said) [ none ↦ unknown | some m ↦ answer (table child m.whole) n w (sets places 0 m.floats) ]
+by_cases : (child : Bool) (n : ℕ) (w : List ℕ) (o : Option Numbers) → by_numbers child n w o ≡ elim o as (λ z. Said) [ None ↦ unknown | Some m ↦ answer (table child m.whole) n w (sets places 0 m.floats) ]
 unfolding by_numbers
-by_cases child n w none = refl
-by_cases child n w (some m) = refl
+by_cases child n w None = refl
+by_cases child n w (Some m) = refl
 
 told_by : (child : Bool) (w s : List ℕ) → child ≡ ltb 0 (length s % 17) → by_numbers child (length s / 17) w (numbers_of (length s / 17) child (rest s)) ≡ told w s
 unfolding told
@@ -56,22 +53,21 @@ module _ (s : List ℕ) (e : ℕ) (within : e ≤ length s) (first : (k : ℕ) �
   behind = length-drop e s
 
   -- what is answered to the numbers that stand behind the comma
-  heard : (child : Bool) → child ≡ ltb 0 ((length s - e) % 17) → by_numbers child ((length s - e) / 17) (take (e - 0) s) (numbers_of ((length s - e) / 17) child (rest (drop e s))) ≡ asked s
+  heard : (child : Bool) → child ≡ ltb 0 ((length s - e) % 17) → by_numbers child ((length s - e) / 17) (take e s) (numbers_of ((length s - e) / 17) child (rest (drop e s))) ≡ asked s
   heard child h =
-      ap (λ (j : ℕ). by_numbers child ((length s - e) / 17) (take j s) (numbers_of ((length s - e) / 17) child (rest (drop e s)))) (sub-zero e)
-      ∙ ap (λ (m : ℕ). by_numbers child (m / 17) (take e s) (numbers_of (m / 17) child (rest (drop e s)))) (sym behind)
+      ap (λ (m : ℕ). by_numbers child (m / 17) (take e s) (numbers_of (m / 17) child (rest (drop e s)))) (sym behind)
       ∙ told_by child (take e s) (drop e s) (h ∙ ap (λ (m : ℕ). ltb 0 (m % 17)) (sym behind)) ∙ cut
 
-  have : (child : Bool) (count : ℕ) (r k : Whole) (v : List Float) → Reads count child (rest (take (length s - e) (drop e s))) r places v → count ≡ (length s - e) / 17 → r ≡ k → Reads ((length s - e) / 17) child (rest (drop e s)) k places v
+  have : (child : Bool) (count : ℕ) (r k : Option ℕ) (v : List Float) → Reads count child (rest (take (length s - e) (drop e s))) r places v → count ≡ (length s - e) / 17 → r ≡ k → Reads ((length s - e) / 17) child (rest (drop e s)) k places v
   have child count r k v g c q =
-      subst (λ (t : Whole). Reads ((length s - e) / 17) child (rest (drop e s)) t places v) q
+      subst (λ (t : Option ℕ). Reads ((length s - e) / 17) child (rest (drop e s)) t places v) q
       (subst (λ (t : List ℕ). Reads ((length s - e) / 17) child (rest t) r places v) (rest_is s e) (subst (λ (m : ℕ). Reads m child (rest (take (length s - e) (drop e s))) r places v) c g))
 
-  pub ask_value : (child : Bool) (count : ℕ) (r : Whole) (v : List Float) (k : ℕ) → child ≡ ltb 0 ((length s - e) % 17) → Reads count child (rest (take (length s - e) (drop e s))) r places v → count ≤ 12 → count ≡ (length s - e) / 17 → r ≡ whole.Value k → answer (table child k) ((length s - e) / 17) (take (e - 0) s) v ≡ asked s
+  pub ask_value : (child : Bool) (count : ℕ) (r : Option ℕ) (v : List Float) (k : ℕ) → child ≡ ltb 0 ((length s - e) % 17) → Reads count child (rest (take (length s - e) (drop e s))) r places v → count ≤ 12 → count ≡ (length s - e) / 17 → r ≡ Some k → answer (table child k) ((length s - e) / 17) (take e s) v ≡ asked s
   unfolding by_numbers
   ask_value child count r v k h g room c q =
-      ap (λ (l : List Float). answer (table child k) n (take (e - 0) s) l) (array_read n child fs places v small (whole.Value k) read)
-      ∙ ap (by_numbers child n (take (e - 0) s)) (sym (numbers_read n child fs places v small k read)) ∙ heard child h
+      ap (λ (l : List Float). answer (table child k) n (take e s) l) (array_read n child fs places v small (Some k) read)
+      ∙ ap (by_numbers child n (take e s)) (sym (numbers_read n child fs places v small k read)) ∙ heard child h
     where
       n : ℕ
       n = (length s - e) / 17
@@ -82,13 +78,13 @@ module _ (s : List ℕ) (e : ℕ) (within : e ≤ length s) (first : (k : ℕ) �
       small : n ≤ 12
       small = omega (arith, c, room)
 
-      read : Reads n child fs (whole.Value k) places v
-      read = have child count r (whole.Value k) v g c q
+      read : Reads n child fs (Some k) places v
+      read = have child count r (Some k) v g c q
 
-  pub ask_not : (child : Bool) (count : ℕ) (r : Whole) (v : List Float) → child ≡ ltb 0 ((length s - e) % 17) → Reads count child (rest (take (length s - e) (drop e s))) r places v → count ≤ 12 → count ≡ (length s - e) / 17 → r ≡ whole.Not → unknown ≡ asked s
+  pub ask_not : (child : Bool) (count : ℕ) (r : Option ℕ) (v : List Float) → child ≡ ltb 0 ((length s - e) % 17) → Reads count child (rest (take (length s - e) (drop e s))) r places v → count ≤ 12 → count ≡ (length s - e) / 17 → r ≡ None → unknown ≡ asked s
   unfolding by_numbers
   ask_not child count r v h g room c q =
-      ap (by_numbers child ((length s - e) / 17) (take (e - 0) s)) (sym (numbers_not ((length s - e) / 17) child (rest (drop e s)) places v (omega (arith, c, room)) (have child count r whole.Not v g c q)))
+      ap (by_numbers child ((length s - e) / 17) (take e s)) (sym (numbers_not ((length s - e) / 17) child (rest (drop e s)) places v (omega (arith, c, room)) (have child count r None v g c q)))
       ∙ heard child h
 
   pub ask_none : ((k : ℕ) → 1 ≤ k → k ≤ 12 → (length s - e) / 17 ≡ k → ⊥) → unknown ≡ asked s
@@ -101,6 +97,6 @@ module _ (s : List ℕ) (e : ℕ) (within : e ≤ length s) (first : (k : ℕ) �
       t : Bool
       t = ltb 0 ((length s - e) % 17)
 
-      go : (o : Option Numbers) → unknown ≡ by_numbers t n (take (e - 0) s) o
-      go none = refl
-      go (some m) = none_asks t n (take (e - 0) s) (sets places 0 m.floats) m.whole (λ k a b. ne_eqb n k (h k a b))
+      go : (o : Option Numbers) → unknown ≡ by_numbers t n (take e s) o
+      go None = refl
+      go (Some m) = none_asks t n (take e s) (sets places 0 m.floats) m.whole (λ k a b. ne_eqb n k (h k a b))

@@ -1,7 +1,6 @@
 -- What is asked, and the answer: the definitions of the model at the numbers of a line. Definitions only.
-use Rattle.std.specs.Prelude.{ℕ, ◌+◌, ◌/◌, ◌%◌, Bool, true, false, cond, ◌&&◌, eqb, ltb, Float, length, get_or, drop}
+use Rattle.std.specs.Prelude.{ℕ, ◌+◌, ◌/◌, ◌%◌, Bool, true, false, cond, ◌&&◌, eqb, ltb, Float, length, get_or, drop, None, Some}
 use mathlib.Core.List.{List, [], ◌∷◌, replicate}
-use Rattle.std.proofs.Math.Option.{none, some}
 use Rattle.std.specs.Float.{binary64, nan}
 use Rattle.std.specs.Float.Ieee.{of_bits}
 use Rattle.std.proofs.lemmas.List.Edits.{sets}
@@ -138,8 +137,8 @@ unfoldable pub told : List ℕ → List ℕ → Said
 unfolding numbers_of rest questions parts answer
 told w s =
     elim (numbers_of (length s / 17) (ltb 0 (length s % 17)) (rest s)) [
-      | none ↦ unknown
-      | some m ↦ answer (table (ltb 0 (length s % 17)) m.whole) (length s / 17) w (sets places 0 m.floats)
+      | None ↦ unknown
+      | Some m ↦ answer (table (ltb 0 (length s % 17)) m.whole) (length s / 17) w (sets places 0 m.floats)
     ]
 
 -- the word is the first field

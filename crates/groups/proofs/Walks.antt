@@ -1,15 +1,12 @@
 -- Each turn of a loop, and the functions above it, in terms of what is written. Assumes nothing.
 use mathlib.Core.Path.{◌≡◌, refl, ap, ap₂, sym, subst, ◌∙◌}
 use mathlib.Core.Logic.{◌≢◌}
-use mathlib.Core.Bool.{Bool, true, false, cond}
+use mathlib.Core.Bool.{Bool, true, false}
 use mathlib.Core.List.{List, [], ◌∷◌}
 use Prim.Native.Nat.{ℕ, zero, suc, ◌+◌, ◌-◌, ◌*◌, ◌/◌, ◌<◌, ◌≤◌}
 use native.Mathlib.Omega.{arith}
-use native.Mathlib.Nat.{div-zero}
 use native.Mathlib.Numerals.{sub-one}
-use lib.Dec.{ltb}
-use borrow.Author.Tests.{lt-ltb, le-ltb}
-use lib.ListN.{length, get_or, set, drop, get_or-eq_default}
+use lib.ListN.{length, get_or, set, drop}
 use lib.Seq.{drop-cons}
 use Rattle.words.specs.Words.{words}
 use Rattle.words.proofs.Words.{length_words}
@@ -32,18 +29,14 @@ unfolding enough
 enough_stop ways n zero h lt z = absurd (omega arith)
 enough_stop ways n (suc m) h lt z = sym (ifz-yes h _ _ z)
 
-pub enough_go : (ways : ℕ) (n : List ℕ) (m h j v : ℕ) → 0 < m → h ≢ 0 → j ≡ kid ways h 0 → v ≡ get_or n (4 * j) 0 → enough ways n (m - 1) v ≡ enough ways n m h
+pub enough_go : (ways : ℕ) (n : List ℕ) (m g h j v : ℕ) → m ≡ suc g → h ≢ 0 → j ≡ kid ways h 0 → v ≡ get_or n (4 * j) 0 → enough ways n g v ≡ enough ways n m h
 unfolding enough
-enough_go ways n zero h j v lt z ej ev = absurd (omega arith)
-enough_go ways n (suc m) h j v lt z ej ev = rw (sub-one (suc m)) (ap (enough ways n m) (ev ∙ ap (λ a. get_or n (4 * a) 0) ej) ∙ sym (ifz-no h false (enough ways n m (get_or n (4 * kid ways h 0) 0)) z))
+enough_go ways n m g h j v em z ej ev = rw em (ap (enough ways n g) (ev ∙ ap (λ a. get_or n (4 * a) 0) ej) ∙ sym (ifz-no h false (enough ways n g (get_or n (4 * kid ways h 0) 0)) z))
 
 pub tells : (ways : ℕ) (n : List ℕ) (m : ℕ) (r : Bool) → r ≡ enough ways n m (get_or n 0 0) → (r ≡ enough ways n m (get_or n 0 0)) × Tells ways n m r
 tells ways n m r e = (e, subst (λ b. Tells ways n m b) (sym e) (enough_tells ways n m))
 
 -- ---- clear
-pub rows_none : (n ways : ℕ) → ways ≡ 0 → 0 ≡ named (n / ways)
-rows_none n ways z = sym (ap (λ w. named (n / w)) z ∙ ap named (div-zero n))
-
 pub pushed_end : (x : List ℕ) (p : ℕ) → p ≤ 1 → x ≡ pushed_down (p - 1) x
 unfolding pushed_down
 pushed_end x zero h = refl
@@ -79,10 +72,6 @@ pub groups_freed : (ways : ℕ) (s w y : List ℕ) (len k : ℕ) → len ≡ len
     → y ≡ given_down ways (named (length (words s) / 4 / ways) - 1) (set (words s) 0 0)
 groups_freed ways s w y len k el ek ew e = e ∙ ap₂ (λ v u. given_down ways (v - 1) u) (ek ∙ ap (λ v. named (v / ways)) (omega (arith, el, length_words s))) ew
 
-pub clears : (n n1 n2 n3 n4 : List ℕ) (i : ℕ) → n1 ≡ set n (4 * i + 0) 0 → n2 ≡ set n1 (4 * i + 1) 0 → n3 ≡ set n2 (4 * i + 2) 0 → n4 ≡ set n3 (4 * i + 3) 0 → n4 ≡ cleared n i
-unfolding cleared
-clears n n1 n2 n3 n4 i e1 e2 e3 e4 = e4 ∙ rw (e3, e2, e1) (ap (λ w. set (set (set (set n w 0) (4 * i + 1) 0) (4 * i + 2) 0) (4 * i + 3) 0) (omega arith))
-
 pub empties : (ways : ℕ) (n n1 n2 x y : List ℕ) (i : ℕ) → n1 ≡ given_down ways (named (length n / 4 / ways) - 1) (set n 0 0) → n2 ≡ cleared n1 i → y ≡ pushed_down (named (length x) - 1) (set x 0 0)
     → (both n2 y ≡ emptied ways (both n x) i) × Empties ways (both n x) (both n2 y) i
 unfolding emptied
@@ -96,27 +85,9 @@ unfolding cleared_from
 cleared_end zero n i h = refl
 cleared_end (suc f) n i h = absurd (omega arith)
 
-pub cleared_go : (f : ℕ) (n m : List ℕ) (i : ℕ) → 0 < f → m ≡ cleared n i → cleared_from (f - 1) m (i + 1) ≡ cleared_from f n i
+pub cleared_go : (f g : ℕ) (n m : List ℕ) (i : ℕ) → f ≡ suc g → m ≡ cleared n i → cleared_from g m (i + 1) ≡ cleared_from f n i
 unfolding cleared_from
-cleared_go zero n m i h e = absurd (omega arith)
-cleared_go (suc f) n m i h e = rw (e, sub-one (suc f)) (ap (cleared_from f (cleared n i)) (omega arith))
-
--- ---- turn
-pub turn_none : (ways : ℕ) (ts : List ℕ) (j : ℕ) → length ts ≤ j → 0 ≡ turn_at ways ts j
-unfolding turn_at
-turn_none ways ts j h = sym (rw (get_or-eq_default ts 0 h) (go (ltb 0 ways)))
-  where
-    go : (b : Bool) → ◌≡◌ {A = ℕ} (cond b 0 0) 0
-    go true = refl
-    go false = refl
-
-pub turn_yes : (ways : ℕ) (ts : List ℕ) (j : ℕ) → get_or ts j 0 < ways → get_or ts j 0 ≡ turn_at ways ts j
-unfolding turn_at
-turn_yes ways ts j h = rw (lt-ltb (get_or ts j 0) ways h)
-
-pub turn_no : (ways : ℕ) (ts : List ℕ) (j : ℕ) → ways ≤ get_or ts j 0 → 0 ≡ turn_at ways ts j
-unfolding turn_at
-turn_no ways ts j h = rw (le-ltb (get_or ts j 0) ways h)
+cleared_go f g n m i ef e = rw (ef, e) (ap (cleared_from g (cleared n i)) (omega arith))
 
 -- ---- deal
 pub deal_end : (ways k : ℕ) (ts : List ℕ) (f j : ℕ) (s : Pool) (q : ℕ) → f ≤ 0 → s ≡ dealing ways k ts f j s q
@@ -155,30 +126,6 @@ splits ways ts n n1 n2 n3 x r i h u k j eu nz eh ek e1 ej e2 e3 er =
     ((ek, e), subst (λ a. Splits ways ts (both n x) r i a) (sym ek) (subst (λ p. Splits ways ts (both n x) p i (get_or n 0 0)) (sym e) (parted_world ways ts (both n x) i)))
 
 -- ---- merge
-pub either_no : (a b : ℕ) → a ≡ 0 → b ≡ either a b
-unfolding either
-either_no a b e = sym (ifz-yes a b a e)
-
-pub either_yes : (a b : ℕ) → a ≢ 0 → a ≡ either a b
-unfolding either
-either_yes a b e = sym (ifz-no a b a e)
-
-pub hook_no : (x : List ℕ) (b f : ℕ) → b ≡ 0 → x ≡ hooked x b f
-unfolding hooked
-hook_no x b f e = sym (ifz-yes b _ _ e)
-
-pub hook_nor : (x : List ℕ) (b f : ℕ) → b ≢ 0 → f ≡ 0 → x ≡ hooked x b f
-unfolding hooked
-hook_nor x b f z e = sym (ifz-no b _ _ z ∙ ifz-yes f _ _ e)
-
-pub hook_yes : (x y : List ℕ) (b f : ℕ) → b ≢ 0 → f ≢ 0 → y ≡ set x b f → y ≡ hooked x b f
-unfolding hooked
-hook_yes x y b f z e k = k ∙ sym (ifz-no b _ _ z ∙ ifz-no f _ _ e)
-
-pub lays : (n n1 n2 n3 : List ℕ) (i a b : ℕ) → n1 ≡ set n (4 * i + 0) 0 → n2 ≡ set n1 (4 * i + 1) a → n3 ≡ set n2 (4 * i + 2) b → n3 ≡ laid n i a b
-unfolding laid
-lays n n1 n2 n3 i a b e1 e2 e3 = e3 ∙ rw (e2, e1) (ap (λ w. set (set (set n w 0) (4 * i + 1) a) (4 * i + 2) b) (omega arith))
-
 pub join_end : (ways : ℕ) (n : List ℕ) (k : ℕ) (o : List ℕ) (j : ℕ) (r : Row) → length o ≤ j → r ≡ joining ways n k (drop j o) r
 unfolding joining
 join_end ways n k [] zero r h = refl

@@ -5,12 +5,13 @@
 
 ghost use Rattle.std.specs.Prelude.{◌≡◌, ◌<◌, length, get_or};
 ghost use Rattle.words.specs.Words.{words};
-ghost use Rattle.pool.specs.Writes.{pool, enough, cleared, cleared_from, turn_at, dealing, parted, hooked, either, laid, merged};
+ghost use Rattle.pool.specs.Held.{held, SameSlices};
+ghost use Rattle.pool.specs.Writes.{enough, cleared, cleared_from, turn_at, dealing, parted, hooked, either, laid, merged};
 ghost use Rattle.pool.specs.Meanings.{Tells, Splits, Merges};
 
 use free::{give_group, take_group};
 use lists::append;
-use pool::{child, first, group, last, next, set_field};
+use pool::{Pool, Word, child, first, group, last, next, set_field};
 use words::{get, put};
 
 // Whether at least `need` groups are free.
@@ -19,26 +20,24 @@ pub fn has_groups(nodes: &[u8], ways: u8, need: u8) -> bool
     ensures tree { Tells ways (words nodes.now) need result }
 {
     let mut k = get(nodes, 0);
-    let mut left = need;
-    while left > 0 {
+    for _ in 0..need {
         if k == 0 {
             return false;
         }
-        let j = child(ways, k, 0);
-        k = group(nodes, j);
-        left -= 1;
+        k = group(nodes, child(ways, k, 0));
     }
     true
 }
 
 // Makes node i undivided and empty.
+#[tactic(auto, unfolding(pool::specs::Writes::cleared))]
 pub fn clear_node(nodes: &mut [u8], i: usize)
     ensures { words nodes.new ≡ cleared (words nodes.old) i }
 {
-    set_field(nodes, i, 0, 0);
-    set_field(nodes, i, 1, 0);
-    set_field(nodes, i, 2, 0);
-    set_field(nodes, i, 3, 0);
+    set_field(nodes, i, Word::Group, 0);
+    set_field(nodes, i, Word::First, 0);
+    set_field(nodes, i, Word::Last, 0);
+    set_field(nodes, i, Word::Count, 0);
 }
 
 // Makes some nodes from i on empty.
@@ -46,65 +45,62 @@ fn clear_nodes(nodes: &mut [u8], i: usize, some: u8)
     requires { i < 1099511627776 }
     ensures { words nodes.new ≡ cleared_from some (words nodes.old) i }
 {
-    let mut j = i;
-    let mut left = some;
-    while left > 0 {
+    for j in i..i + usize::from(some) {
         clear_node(nodes, j);
-        j += 1;
-        left -= 1;
     }
 }
 
 // The j-th turn.
+#[tactic(auto, unfolding(pool::specs::Writes::turn_at))]
 fn turn(turns: &[u8], j: usize, ways: u8) -> u8
     ensures { result ≡ turn_at ways turns.now j }
 {
-    if j >= turns.len() {
-        return 0;
+    match turns.get(j) {
+        Some(t) if *t < ways => *t,
+        _ => 0,
     }
-    let t = turns[j];
-    if t < ways { t } else { 0 }
 }
 
 // Puts each place of the list from `head` on at the end of the list of the child of group k that its turn says.
-fn deal(nodes: &mut [u8], links: &mut [u8], k: u32, ways: u8, head: u32, turns: &[u8])
-    ensures { pool nodes.new links.new ≡ dealing ways k turns.now (length (words links.old)) 0 (pool nodes.old links.old) head }
+fn deal(pool: &mut Pool<'_>, k: u32, head: u32, turns: &[u8])
+    ensures links_after { held pool.new ≡ dealing pool.old.ways k turns.now (length (words pool.old.links.now)) 0 (held pool.old) head }
+    ensures same { SameSlices pool.old pool.new }
 {
-    let most = links.len() / 4;
+    let ways = pool.ways;
     let mut q = head;
-    let mut j = 0;
-    while j < most {
+    for j in 0..pool.links.len() / 4 {
         if q == 0 {
             return;
         }
+        let links = &mut *pool.links;
         let after = next(links, q);
         let c = turn(turns, j, ways);
-        let i = child(ways, k, c);
-        append(nodes, links, i, q);
+        append(pool, child(ways, k, c), q);
         q = after;
-        j += 1;
     }
 }
 
 // Divides node i: it gets the first free group, and its places are dealt out by their turns. Returns the group, or 0 where none is free.
-pub fn split(nodes: &mut [u8], links: &mut [u8], i: usize, ways: u8, turns: &[u8]) -> u32
-    ensures value { (result ≡ get_or (words nodes.old) 0 0) × (pool nodes.new links.new ≡ parted ways turns.now (pool nodes.old links.old) i) }
-    ensures tree { Splits ways turns.now (pool nodes.old links.old) (pool nodes.new links.new) i result }
+pub fn split(pool: &mut Pool<'_>, i: usize, turns: &[u8]) -> u32
+    ensures value { (result ≡ get_or (words pool.old.nodes.now) 0 0) × (held pool.new ≡ parted pool.old.ways turns.now (held pool.old) i) }
+    ensures tree { Splits pool.old.ways turns.now (held pool.old) (held pool.new) i result }
+    ensures same { SameSlices pool.old pool.new }
 {
-    let free = get(nodes, 0);
-    if free == 0 {
+    let ways = pool.ways;
+    let nodes = &mut *pool.nodes;
+    if get(nodes, 0) == 0 {
         return 0;
     }
     let head = first(nodes, i);
     let k = take_group(nodes, ways);
-    let j = child(ways, k, 0);
-    clear_nodes(nodes, j, ways);
-    set_field(nodes, i, 0, k);
-    deal(nodes, links, k, ways, head, turns);
+    clear_nodes(nodes, child(ways, k, 0), ways);
+    set_field(nodes, i, Word::Group, k);
+    deal(pool, k, head, turns);
     k
 }
 
 // The first of two that is not 0.
+#[tactic(auto, unfolding(pool::specs::Writes::either))]
 fn pick(a: u32, b: u32) -> u32
     ensures { result ≡ either a b }
 {
@@ -112,44 +108,43 @@ fn pick(a: u32, b: u32) -> u32
 }
 
 // Links the last place of one list to the first of another.
+#[tactic(auto, unfolding(pool::specs::Writes::hooked))]
 fn hook(links: &mut [u8], b: u32, f: u32)
     ensures { words links.new ≡ hooked (words links.old) b f }
 {
-    if b == 0 {
-        return;
+    if b != 0 && f != 0 {
+        put(links, b as usize, f);
     }
-    if f == 0 {
-        return;
-    }
-    put(links, b as usize, f);
 }
 
 // Makes node i undivided, with the list from a to b.
+#[tactic(auto, unfolding(pool::specs::Writes::laid))]
 fn lay(nodes: &mut [u8], i: usize, a: u32, b: u32)
     ensures { words nodes.new ≡ laid (words nodes.old) i a b }
 {
-    set_field(nodes, i, 0, 0);
-    set_field(nodes, i, 1, a);
-    set_field(nodes, i, 2, b);
+    set_field(nodes, i, Word::Group, 0);
+    set_field(nodes, i, Word::First, a);
+    set_field(nodes, i, Word::Last, b);
 }
 
 // Makes node i undivided: it gets the lists of the children of its group k, joined in the order of their numbers that is given, and the group is free.
-pub fn merge(nodes: &mut [u8], links: &mut [u8], i: usize, k: u32, ways: u8, order: &[u8])
-    ensures links_after { pool nodes.new links.new ≡ merged ways order.now (pool nodes.old links.old) i k }
-    ensures tree { Merges ways order.now (pool nodes.old links.old) (pool nodes.new links.new) i k }
+pub fn merge(pool: &mut Pool<'_>, i: usize, k: u32, order: &[u8])
+    ensures links_after { held pool.new ≡ merged pool.old.ways order.now (held pool.old) i k }
+    ensures tree { Merges pool.old.ways order.now (held pool.old) (held pool.new) i k }
+    ensures same { SameSlices pool.old pool.new }
 {
+    let ways = pool.ways;
+    let nodes = &mut *pool.nodes;
+    let links = &mut *pool.links;
     let mut a: u32 = 0;
     let mut b: u32 = 0;
-    let mut j = 0;
-    while j < order.len() {
-        let c = order[j];
-        let q = child(ways, k, c);
+    for c in order {
+        let q = child(ways, k, *c);
         let f = first(nodes, q);
         let t = last(nodes, q);
         hook(links, b, f);
         a = pick(a, f);
         b = pick(t, b);
-        j += 1;
     }
     lay(nodes, i, a, b);
     give_group(nodes, ways, k);

@@ -2,9 +2,9 @@
 use mathlib.Core.Path.{◌≡◌, refl, ap, ap₂, sym, ◌∙◌, subst}
 use mathlib.Core.Bool.{Bool, true, false, not}
 use mathlib.Core.List.{List, [], ◌∷◌, ◌++◌, map, zip_with, append_assoc}
-use Prim.Native.Nat.{ℕ, zero, suc, ◌-◌, ◌<◌, ◌≤◌, min}
+use Prim.Native.Nat.{ℕ, zero, suc, ◌+◌, ◌-◌, ◌<◌, ◌≤◌, min}
 use native.Mathlib.Nat.{zero-add}
-use native.Mathlib.Numerals.{sub-one}
+use native.Mathlib.Numerals.{add-one, sub-one}
 use native.Mathlib.Omega.{arith}
 use lib.ListN.{length, get_or, take, drop, set, length-append, length-map, length-set}
 use lib.Seq.{append_snoc, drop-cons, drop-length, drop-set-lt, get_or_at, length-take-le, lt-length-set, set_at, set_split, sets, sets-eq, split_at, take-length, take-suc}
@@ -170,27 +170,23 @@ module _ (ds : List Float) (ps : List ℕ) (n : ℕ) (d : Float) (p : ℕ) (h : 
       (subst (λ (t : List (At ℕ)). settle (at d p) t ≡ take i t ++ at d p ∷ drop i t) (entries_set n ds ps d p) e)
       (ap (λ (m : ℕ). drop (suc m) ds) all ∙ sym (drop-set-lt (suc n) ds n d (omega arith))) (ap (λ (m : ℕ). drop (suc m) ps) all ∙ sym (drop-set-lt (suc n) ps n p (omega arith))) (omega (arith, all)) (omega (arith, all))
 
-is_true : (b : Bool) → not b ≡ false → T b
-is_true true e = tt
-is_true false e = subst T e tt
-
 module _ (ds₀ : List Float) (ps₀ : List ℕ) (n : ℕ) (d : Float) (p : ℕ) (ds : List Float) (ps : List ℕ) where
-  pub moving_step : (i : ℕ) → Moving ds₀ ps₀ n d p ds ps i → 0 < i → not (less d (get_or ds (i - 1) nan)) ≡ false
-      → Moving ds₀ ps₀ n d p (set (set ds i (get_or ds (i - 1) nan)) (i - 1) d) (set (set ps i (get_or ps (i - 1) 0)) (i - 1) p) (i - 1)
+  pub moving_step : (i : ℕ) → Moving ds₀ ps₀ n d p ds ps i → 0 < i → less d (get_or ds (i - 1) nan) ≡ true
+      → Moving ds₀ ps₀ n d p (set (set ds (i - 1 + 1) (get_or ds (i - 1) nan)) (i - 1) d) (set (set ps (i - 1 + 1) (get_or ps (i - 1) 0)) (i - 1) p) (i - 1)
   moving_step zero m h l = absurd (omega arith)
-  moving_step (suc i) m h l = subst (λ (j : ℕ). Moving ds₀ ps₀ n d p (set (set ds (suc i) (get_or ds j nan)) j d) (set (set ps (suc i) (get_or ps j 0)) j p) j) (sym (sub-one (suc i))) (record {
+  moving_step (suc i) m h l = subst (λ (j : ℕ). Moving ds₀ ps₀ n d p (set (set ds (j + 1) (get_or ds j nan)) j d) (set (set ps (j + 1) (get_or ps j 0)) j p) j) (sym (sub-one (suc i))) (rw add-one (record {
     same_d = length-set (set ds (suc i) (get_or ds i nan)) i d ∙ length-set ds (suc i) (get_or ds i nan) ∙ m.same_d;
     same_p = length-set (set ps (suc i) (get_or ps i 0)) i p ∙ length-set ps (suc i) (get_or ps i 0) ∙ m.same_p;
     room_d = m.room_d;
     room_p = m.room_p;
     few = omega (arith, m.few);
-    rising = rising_step (at d p) _ _ _ ds ps i (get_or ds i nan) nan (get_or ps i 0) m.rising refl refl (subst (λ (j : ℕ). T (less d (get_or ds j nan))) (sub-one (suc i)) (is_true (less d (get_or ds (suc i - 1) nan)) l));
-  })
+    rising = rising_step (at d p) _ _ _ ds ps i (get_or ds i nan) nan (get_or ps i 0) m.rising refl refl (subst T (sym l ∙ ap (λ (j : ℕ). less d (get_or ds j nan)) (sub-one (suc i))) tt);
+  }))
 
-  pub moving_stop : (i : ℕ) → Moving ds₀ ps₀ n d p ds ps i → 0 < i → not (less d (get_or ds (i - 1) nan)) ≡ true
+  pub moving_stop : (i : ℕ) → Moving ds₀ ps₀ n d p ds ps i → 0 < i → less d (get_or ds (i - 1) nan) ≡ false
       → settle (at d p) (entries n ds₀ ps₀) ≡ take i (entries n ds₀ ps₀) ++ at d p ∷ drop i (entries n ds₀ ps₀)
   moving_stop zero m h l = absurd (omega arith)
-  moving_stop (suc i) m h l = rising_stop (at d p) _ _ _ ds ps i (get_or ds i nan) nan m.rising refl (subst (λ (j : ℕ). T (not (less d (get_or ds j nan)))) (sub-one (suc i)) (subst T (sym l) tt))
+  moving_stop (suc i) m h l = rising_stop (at d p) _ _ _ ds ps i (get_or ds i nan) nan m.rising refl (subst (λ (b : Bool). T (not b)) (sym l ∙ ap (λ (j : ℕ). less d (get_or ds j nan)) (sub-one (suc i))) tt)
 
   pub moving_end : (i : ℕ) → Moving ds₀ ps₀ n d p ds ps i → i ≡ 0 → settle (at d p) (entries n ds₀ ps₀) ≡ take i (entries n ds₀ ps₀) ++ at d p ∷ drop i (entries n ds₀ ps₀)
   moving_end zero m e = rising_end (at d p) _ _ _ ds ps m.rising

@@ -7,9 +7,9 @@ use Prim.Native.Nat.{ℕ, zero, suc, ◌-◌, ◌<◌, ◌≤◌, min}
 use native.Mathlib.Omega.{arith}
 use lib.ListN.{length, get_or, take, length-take}
 use lib.Seq.{take-nil}
-use lib.Dec.{T, ltb}
+use lib.Dec.{ltb}
 use borrow.Author.Tests.{lt-ltb, le-ltb}
-use lib.Ieee.{Float, nan, inf, fin, binary64, lt, nan_bits, of_bits}
+use lib.Ieee.{Float, nan, inf, fin, binary64, lt, of_bits}
 use Rattle.floats.proofs.Order.{nat_total}
 use Rattle.floats.proofs.Patterns.{inf_bits}
 use Rattle.model.specs.Searches.{worst}
@@ -21,10 +21,6 @@ use Rattle.knn.proofs.Offers.{entries_clip, entries_worst}
 pub minus_inf_bits : of_bits binary64 0xfff0_0000_0000_0000 ≡ inf true
 unfolding of_bits
 minus_inf_bits = refl
-
-pub minus_inf_no_nan : T (not (nan_bits binary64 0xfff0_0000_0000_0000))
-unfolding nan_bits
-minus_inf_no_nan = tt
 
 bar_room : (k : ℕ) (ds : List Float) → length ds < k → bar k ds ≡ inf false
 unfolding bar

@@ -107,9 +107,9 @@ module _ (ds₀ : List Float) (ps₀ : List ℕ) (fs : (i : ℕ) → F64 (get_or
           (omega (arith, length-map (first ds₀ i) f, length-map (first ds₀ (suc i)) f, ap length e ∙ place_length x (first ds₀ i)))
           (omega (arith, length-map (first ds₀ (suc i)) f, ap length e ∙ place_length x (first ds₀ i), o.many, lt))
 
-  pub ordering_done : (ds : List Float) (ps : List ℕ) (i n w : ℕ) → Ordering ds₀ ps₀ ds ps i → i ≡ n → n ≡ min 8 w → w ≡ min (length ds₀) (length ps₀) → Written (ordered ds₀ ps₀) ds₀ ps₀ ds ps
+  pub ordering_done : (ds : List Float) (ps : List ℕ) (i n w : ℕ) → Ordering ds₀ ps₀ ds ps i → i ≡ n → n ≡ min w 8 → w ≡ min (length ds₀) (length ps₀) → Written (ordered ds₀ ps₀) ds₀ ps₀ ds ps
   unfolding first
-  ordering_done ds ps i n w o ei en ew = subst (λ (m : ℕ). Written (place_each [] (numbered 0 (take m ds₀))) ds₀ ps₀ ds ps) (ei ∙ en ∙ ap (min 8) ew) o.written
+  ordering_done ds ps i n w o ei en ew = subst (λ (m : ℕ). Written (place_each [] (numbered 0 (take m ds₀))) ds₀ ps₀ ds ps) {x = i} {y = min 8 (min (length ds₀) (length ps₀))} (omega (arith, ei, en, ew)) o.written
 
 -- ---- that the numbers in this order are the model's children in theirs
 module _ {A B : Type 0} (f : A → B) where

@@ -5,7 +5,7 @@ ghost use Rattle.std.specs.Prelude.{◌≡◌, length, replicate};
 ghost use Rattle.floats.specs.Values.{plus_zero};
 ghost use Rattle.knn.specs.Candidates.{Written, kept, ByModel, Offered};
 
-// Laid out as C has it, so that the oracle can lend one.
+// Kept: two arrays and a count beside them, as document 01 has the table and as C lays it out, so that the oracle can lend one.
 #[repr(C)]
 #[derive(Clone, Copy)]
 pub struct Table {
@@ -17,6 +17,7 @@ pub struct Table {
 
 impl Table {
     // An empty table that will keep at most k, and at most 512.
+    #[tactic(auto, using(floats::proofs::Patterns::zero_bits))]
     pub fn new(k: u32) -> Table
         ensures { (result.dist ≡ replicate 512 plus_zero) × (result.item ≡ replicate 512 0) × (result.count ≡ 0) × (result.k ≡ k) }
     {
@@ -28,28 +29,14 @@ impl Table {
         }
     }
 
-    // The table after an offer: its arrays are lent to the function that changes them where they stand.
-    pub fn offer(self, distance: f64, place: u32) -> Table
+    // The table after an offer.
+    pub fn offer(mut self, distance: f64, place: u32) -> Table
         ensures count_value { (result.count ≡ length (kept self.count self.k distance place self.dist self.item)) × (result.k ≡ self.k) }
         ensures table { Written (kept self.count self.k distance place self.dist self.item) self.dist self.item result.dist result.item }
         ensures model { ByModel self.count self.k distance place self.dist self.item result.dist result.item result.count }
     {
-        let mut dist = self.dist;
-        let mut item = self.item;
-        let count = knn::offer(
-            &mut dist,
-            &mut item,
-            self.count,
-            self.k as usize,
-            distance,
-            place,
-        );
-        Table {
-            dist,
-            item,
-            count,
-            k: self.k,
-        }
+        offer_to(&mut self, distance, place);
+        self
     }
 }
 
@@ -57,7 +44,12 @@ impl Table {
 pub fn offer_to(table: &mut Table, distance: f64, place: u32)
     ensures { Offered table.old.count table.old.k distance place table.old.dist table.old.item table.new.dist table.new.item table.new.count table.new.k }
 {
-    let held = *table;
-    let offered = held.offer(distance, place);
-    *table = offered;
+    table.count = knn::offer(
+        &mut table.dist,
+        &mut table.item,
+        table.count,
+        table.k as usize,
+        distance,
+        place,
+    );
 }

@@ -1,65 +1,40 @@
 // Where a record stands in a line, and what is kept of an input whose line has not ended.
 #![tactic(auto)]
 
-ghost use Rattle.std.specs.Prelude.{◌≡◌, ◌-◌, ◌≤◌, min, leb, length, take, drop};
+ghost use Rattle.std.specs.Prelude.{◌≡◌, ◌-◌, ◌≤◌, ◌<◌, length, take, drop, MatchOption};
 ghost use Rattle.std.proofs.lemmas.List.Edits.{sets};
 ghost use Rattle.record.specs.Input.{strip, begun};
 
-// The record of a line: from index `from` up to `to`, and whether it has at most 128 bytes.
-#[derive(Clone, Copy)]
-pub struct Line {
-    pub from: usize,
-    pub to: usize,
-    pub fits: bool,
-}
-
-// 3 where an input begins with the mark and this is its very start, and 0 otherwise.
-pub fn skipped(s: &[u8], start: bool) -> usize
-    ensures { (result ≤ length s.now) × (drop result s.now ≡ begun start s.now) }
+// What an input says from here on: without the mark, where this is the very start.
+pub fn unmarked<'a>(s: &'a [u8], start: bool) -> &'a [u8]
+    ensures { result.now ≡ begun start s.now }
 {
     if !start {
-        return 0;
+        return s;
     }
-    if s.len() < 3 {
-        return 0;
-    }
-    if check::same(&s[0..3], b"\xef\xbb\xbf") {
-        return 3;
-    }
-    0
+    s.strip_prefix(b"\xef\xbb\xbf").unwrap_or(s)
 }
 
-// How many bytes stand before the carriage return of a line end.
-fn stripped(s: &[u8]) -> usize
-    ensures { (result ≤ length s.now) × (take result s.now ≡ strip s.now) }
+// What stands before the carriage return of a line end.
+fn stripped<'a>(s: &'a [u8]) -> &'a [u8]
+    ensures { result.now ≡ strip s.now }
 {
-    let n = s.len();
-    if n == 0 {
-        return 0;
-    }
-    if s[n - 1] == 13 {
-        return n - 1;
-    }
-    n
-}
-
-// Where the record of a line stands, which is given without its line feed.
-pub fn line_of(s: &[u8], start: bool) -> Line
-    ensures { (result.from ≤ result.to) × (result.to ≤ length s.now) × (result.fits ≡ leb (length (strip (begun start s.now))) 128) × (take (result.to - result.from) (drop result.from s.now) ≡ strip (begun start s.now)) × (drop result.from s.now ≡ begun start s.now) }
-{
-    let from = skipped(s, start);
-    let n = stripped(&s[from..]);
-    Line {
-        from: from,
-        to: from + n,
-        fits: n <= 128,
+    match s {
+        [record @ .., b'\r'] => record,
+        _ => s,
     }
 }
 
-fn least(a: usize, b: usize) -> usize
-    ensures { result ≡ min a b }
+// The record of a line, which is given without its line feed, if it has at most 128 bytes.
+pub fn line_of<'a>(s: &'a [u8], start: bool) -> Option<&'a [u8]>
+    ensures { MatchOption result (128 < length (strip (begun start s.now))) (λ r. (r.now ≡ strip (begun start s.now)) × (length r.now ≤ 128)) }
 {
-    if a < b { a } else { b }
+    let record = stripped(unmarked(s, start));
+    if record.len() <= 128 {
+        Some(record)
+    } else {
+        None
+    }
 }
 
 // Moves the bytes from index `from` up to n, as far as there are any, to the front, 133 of them at most: the mark, 128, a carriage return and one more, which
@@ -68,15 +43,11 @@ pub fn keep(buf: &mut [u8], from: usize, n: usize) -> usize
     ensures buf_after { buf.new ≡ sets buf.old 0 (take 133 (take (n - from) (drop from buf.old))) }
     ensures value { result ≡ length (take 133 (take (n - from) (drop from buf.old))) }
 {
-    let end = least(n, buf.len());
+    let end = n.min(buf.len());
     if end < from {
         return 0;
     }
-    let m = least(end - from, 133);
-    let mut i = 0;
-    while i < m {
-        buf[i] = buf[from + i];
-        i += 1;
-    }
-    m
+    let many = (end - from).min(133);
+    buf.copy_within(from..from + many, 0);
+    many
 }

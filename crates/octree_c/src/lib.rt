@@ -1,10 +1,14 @@
-// The calls of `octree` as C functions, with its names and its contracts: what a host links.
+// The calls of `calls` on an octree as C functions: what a host links.
+// Kept: numbers, slices and a reply number for each call, and a file for each tree: this is the C interface.
 #![tactic(auto)]
 
 ghost use Rattle.std.specs.Prelude.{[], ◌∷◌};
 ghost use Rattle.model.specs.Boxes.{side};
 ghost use Rattle.model.specs.Calls.{octree, Create, Insert, Bulk, Delete, Clear, Contains, Len, IsEmpty, Radius, Box, Nearest};
 ghost use Rattle.trees.specs.Pieces.{pieces, Does, Asks, Searches, room_for, lent};
+
+use geometry::space::{Cube, Point3D};
+use pieces::{Pieces, reply, tell, tell_yes};
 
 // An empty tree with this boundary and capacity.
 #[unsafe(no_mangle)]
@@ -23,9 +27,15 @@ pub extern "C" fn octree_create(
 ) -> u32
     ensures { Does octree (Create (side x width ∷ side y height ∷ side z depth ∷ []) capacity) (pieces head.old nodes.old links.old points.now) (pieces head.new nodes.new links.new points.now) result 0 }
 {
-    octree::octree_create(
-        head, nodes, links, points, x, y, z, width, height, depth, capacity,
-    )
+    let bounds = Cube {
+        x,
+        y,
+        z,
+        width,
+        height,
+        depth,
+    };
+    reply(calls::create(head, nodes, links, points, bounds, capacity))
 }
 
 // Stores a point.
@@ -42,7 +52,8 @@ pub extern "C" fn octree_insert(
 ) -> u32
     ensures { Does octree (Insert (record { at = x ∷ y ∷ z ∷ []; payload = mark })) (pieces head.now nodes.old links.old points.old) (pieces head.now nodes.new links.new points.new) result 0 }
 {
-    octree::octree_insert(head, nodes, links, points, x, y, z, mark)
+    let at = Point3D { x, y, z };
+    reply(calls::insert::<Cube>(head, nodes, links, points, at, mark))
 }
 
 // Stores many points: as many as both slices hold. How many were stored is handed over.
@@ -58,7 +69,9 @@ pub extern "C" fn octree_insert_bulk(
 ) -> u32
     ensures { Does octree (Bulk (lent 3 coords.now payloads.now)) (pieces head.now nodes.old links.old points.old) (pieces head.now nodes.new links.new points.new) result stored.new }
 {
-    octree::octree_insert_bulk(head, nodes, links, points, coords, payloads, stored)
+    let bulk = calls::insert_bulk::<Cube>(head, nodes, links, points, coords, payloads);
+    *stored = bulk.count;
+    reply(bulk.done)
 }
 
 // Takes the first equal point out.
@@ -75,7 +88,8 @@ pub extern "C" fn octree_delete(
 ) -> u32
     ensures { Does octree (Delete (record { at = x ∷ y ∷ z ∷ []; payload = mark })) (pieces head.now nodes.old links.old points.now) (pieces head.now nodes.new links.new points.now) result 0 }
 {
-    octree::octree_delete(head, nodes, links, points, x, y, z, mark)
+    let at = Point3D { x, y, z };
+    reply(calls::delete::<Cube>(head, nodes, links, points, at, mark))
 }
 
 // Leaves one empty root, with boundary and capacity as they were.
@@ -88,7 +102,7 @@ pub extern "C" fn octree_clear(
 ) -> u32
     ensures { Does octree Clear (pieces head.now nodes.old links.old points.now) (pieces head.now nodes.new links.new points.now) result 0 }
 {
-    octree::octree_clear(head, nodes, links, points)
+    reply(calls::clear::<Cube>(head, nodes, links, points))
 }
 
 // Whether an equal point is held: 1 or 0 is handed over.
@@ -106,7 +120,14 @@ pub extern "C" fn octree_contains(
 ) -> u32
     ensures { Asks octree (Contains (record { at = x ∷ y ∷ z ∷ []; payload = mark })) (pieces head.now nodes.now links.now points.now) result yes.new }
 {
-    octree::octree_contains(head, nodes, links, points, x, y, z, mark, yes)
+    let tree = Pieces {
+        head,
+        nodes,
+        links,
+        points,
+    };
+    let at = Point3D { x, y, z };
+    tell_yes(calls::contains::<Cube>(&tree, at, mark), yes)
 }
 
 // How many points are held.
@@ -120,7 +141,13 @@ pub extern "C" fn octree_len(
 ) -> u32
     ensures { Asks octree Len (pieces head.now nodes.now links.now points.now) result count.new }
 {
-    octree::octree_len(head, nodes, links, points, count)
+    let tree = Pieces {
+        head,
+        nodes,
+        links,
+        points,
+    };
+    tell(calls::len::<Cube>(&tree), count)
 }
 
 // Whether no point is held: 1 or 0 is handed over.
@@ -134,7 +161,13 @@ pub extern "C" fn octree_is_empty(
 ) -> u32
     ensures { Asks octree IsEmpty (pieces head.now nodes.now links.now points.now) result yes.new }
 {
-    octree::octree_is_empty(head, nodes, links, points, yes)
+    let tree = Pieces {
+        head,
+        nodes,
+        links,
+        points,
+    };
+    tell_yes(calls::is_empty::<Cube>(&tree), yes)
 }
 
 // The points within a radius.
@@ -154,9 +187,15 @@ pub extern "C" fn octree_range_search(
 ) -> u32
     ensures { Searches octree (Radius (x ∷ y ∷ z ∷ []) radius (room_for 3 coords.old payloads.old)) (pieces head.now nodes.now links.now points.now) coords.old payloads.old coords.new payloads.new result count.new }
 {
-    octree::octree_range_search(
-        head, nodes, links, points, x, y, z, radius, coords, payloads, count,
-    )
+    let tree = Pieces {
+        head,
+        nodes,
+        links,
+        points,
+    };
+    let center = Point3D { x, y, z };
+    let found = calls::range_search::<Cube>(&tree, center, radius, coords, payloads);
+    tell(found, count)
 }
 
 // The points in a box.
@@ -178,9 +217,22 @@ pub extern "C" fn octree_range_search_bbox(
 ) -> u32
     ensures { Searches octree (Box (side x width ∷ side y height ∷ side z depth ∷ []) (room_for 3 coords.old payloads.old)) (pieces head.now nodes.now links.now points.now) coords.old payloads.old coords.new payloads.new result count.new }
 {
-    octree::octree_range_search_bbox(
-        head, nodes, links, points, x, y, z, width, height, depth, coords, payloads, count,
-    )
+    let tree = Pieces {
+        head,
+        nodes,
+        links,
+        points,
+    };
+    let query = Cube {
+        x,
+        y,
+        z,
+        width,
+        height,
+        depth,
+    };
+    let found = calls::range_search_bbox(&tree, query, coords, payloads);
+    tell(found, count)
 }
 
 // The k nearest points.
@@ -200,7 +252,13 @@ pub extern "C" fn octree_knn_search(
 ) -> u32
     ensures { Searches octree (Nearest (x ∷ y ∷ z ∷ []) k (room_for 3 coords.old payloads.old)) (pieces head.now nodes.now links.now points.now) coords.old payloads.old coords.new payloads.new result count.new }
 {
-    octree::octree_knn_search(
-        head, nodes, links, points, x, y, z, k, coords, payloads, count,
-    )
+    let tree = Pieces {
+        head,
+        nodes,
+        links,
+        points,
+    };
+    let target = Point3D { x, y, z };
+    let found = calls::knn_search::<Cube>(&tree, target, k, coords, payloads);
+    tell(found, count)
 }

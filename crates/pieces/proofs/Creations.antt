@@ -20,29 +20,24 @@ use Rattle.pool.specs.Writes.{pool}
 use Rattle.trees.specs.Pieces.{Creates, Decides, Fits, Pieces, pieces}
 use Rattle.trees.proofs.Creates.{Named, creates_bad, creates_done, creates_none}
 use Rattle.trees.proofs.Puts.{put_head}
-use Rattle.pieces.specs.Creations.{creation_of, reply_of}
-use Rattle.pieces.specs.declared.Creation.{Creation}
-use Rattle.pieces.specs.declared.Creation.TheVariants.{Made, Refused}
+use Rattle.std.specs.Prelude.{Result, Ok, Err}
+use Rattle.model.specs.Calls.{number}
+use Rattle.pieces.specs.Creations.{creation_of}
+use Rattle.pieces.specs.Replies.{reply_of}
+use Rattle.pieces.specs.declared.Refusal.{Refusal}
+use Rattle.pieces.specs.declared.Refusal.TheVariants.{NoCapacity, BadBoundary}
 
-pub decides_none : (u : Bool) (cap : ℕ) → cap ≡ 0 → Refused 3 ≡ creation_of u cap
+pub decides_none : (u : Bool) (cap : ℕ) → cap ≡ 0 → Err NoCapacity ≡ creation_of u cap
 unfolding creation_of
 decides_none u cap e = simp (eq-eqb cap 0 e)
 
-pub decides_bad : (u : Bool) (cap : ℕ) → cap ≢ 0 → u ≡ false → Refused 4 ≡ creation_of u cap
+pub decides_bad : (u : Bool) (cap : ℕ) → cap ≢ 0 → u ≡ false → Err BadBoundary ≡ creation_of u cap
 unfolding creation_of
 decides_bad u cap n e = simp (ne_eqb cap 0 n, e)
 
-pub decides_made : (u : Bool) (cap : ℕ) → cap ≢ 0 → u ≡ true → Made cap ≡ creation_of u cap
+pub decides_made : (u : Bool) (cap : ℕ) → cap ≢ 0 → u ≡ true → Ok cap ≡ creation_of u cap
 unfolding creation_of
 decides_made u cap n e = simp (ne_eqb cap 0 n, e)
-
-pub reply_made : (a : Creation) (cap : ℕ) → a ≡ Made cap → 0 ≡ reply_of a
-unfolding reply_of
-reply_made a cap e = sym (ap reply_of e)
-
-pub reply_refused : (a : Creation) (r : ℕ) → a ≡ Refused r → r ≡ reply_of a
-unfolding reply_of
-reply_refused a r e = sym (ap reply_of e)
 
 -- what is known where a tree is to be made
 record Making (u : Bool) (cap most : ℕ) : Type 0 where
@@ -50,36 +45,40 @@ record Making (u : Bool) (cap most : ℕ) : Type 0 where
   some : cap ≢ 0
   accepted : u ≡ true
 
-different : (m r : ℕ) → Made m ≡ Refused r → ⊥
+different : (m : ℕ) (r : Refusal) → Ok m ≡ Err r → ⊥
 different m r e = let z : ◌≡◌ {A = ℕ} 0 1 = cc in omega arith
 
-making : (u : Bool) (cap most : ℕ) (a : Creation) → a ≡ creation_of u cap → a ≡ Made most → Making u cap most
+same_refusal : (a : Result ℕ Refusal) (r q : Refusal) → a ≡ Err r → a ≡ Err q → r ≡ q
+same_refusal a r q e f = cc
+
+making : (u : Bool) (cap most : ℕ) (a : Result ℕ Refusal) → a ≡ creation_of u cap → a ≡ Ok most → Making u cap most
 making u cap most a e g = go u (eqb cap 0) refl refl
   where
     go : (v z : Bool) → u ≡ v → eqb cap 0 ≡ z → Making u cap most
-    go v true f h = absurd (different most 3 (sym g ∙ e ∙ sym (decides_none u cap (eqb-true cap 0 h))))
+    go v true f h = absurd (different most NoCapacity (sym g ∙ e ∙ sym (decides_none u cap (eqb-true cap 0 h))))
     go true false f h =
-        let same : Made most ≡ Made cap = sym g ∙ e ∙ sym (decides_made u cap (eqb-false cap 0 h) f) in
+        let same : Ok most ≡ Ok cap = sym g ∙ e ∙ sym (decides_made u cap (eqb-false cap 0 h) f) in
         record { capacity = cc; some = eqb-false cap 0 h; accepted = f }
-    go false false f h = absurd (different most 4 (sym g ∙ e ∙ sym (decides_bad u cap (eqb-false cap 0 h) f)))
+    go false false f h = absurd (different most BadBoundary (sym g ∙ e ∙ sym (decides_bad u cap (eqb-false cap 0 h) f)))
 
 -- a creation that is refused leaves the pieces as they were
 pub creates_refused : (k : Kind) (s : Pieces) (b : List Side) (cap : ℕ) (v : Bool) → Decides v (Fits k s) → v ≡ true → (u : Bool) → u ≡ acceptable b
-    → (a : Creation) (p r : ℕ) → a ≡ creation_of u cap → a ≡ Refused p → r ≡ reply_of a → Creates k b cap s s r
-creates_refused k s b cap v fits ev u eu a p r e g er = go u (eqb cap 0) refl refl
+    → (a : Result ℕ Refusal) (r : Refusal) → a ≡ creation_of u cap → a ≡ Err r → Creates k b cap s s (number (reply_of r))
+unfolding number
+creates_refused k s b cap v fits ev u eu a r e g = go u (eqb cap 0) refl refl
   where
-    go : (w z : Bool) → u ≡ w → eqb cap 0 ≡ z → Creates k b cap s s r
+    go : (w z : Bool) → u ≡ w → eqb cap 0 ≡ z → Creates k b cap s s (number (reply_of r))
     go w true f h =
         let n = eqb-true cap 0 h in
-        subst (λ (j : ℕ). Creates k b cap s s j) (reply_refused a 3 (e ∙ sym (decides_none u cap n)) ∙ sym er) (creates_none k s b cap v fits ev n)
-    go true false f h = absurd (different cap p (decides_made u cap (eqb-false cap 0 h) f ∙ sym e ∙ g))
+        subst (λ (q : Refusal). Creates k b cap s s (number (reply_of q))) (same_refusal a NoCapacity r (e ∙ sym (decides_none u cap n)) g) (creates_none k s b cap v fits ev n)
+    go true false f h = absurd (different cap r (decides_made u cap (eqb-false cap 0 h) f ∙ sym e ∙ g))
     go false false f h =
         let n = eqb-false cap 0 h in
-        subst (λ (j : ℕ). Creates k b cap s s j) (reply_refused a 4 (e ∙ sym (decides_bad u cap n f)) ∙ sym er) (creates_bad k s b cap v fits ev n u eu f)
+        subst (λ (q : Refusal). Creates k b cap s s (number (reply_of q))) (same_refusal a BadBoundary r (e ∙ sym (decides_bad u cap n f)) g) (creates_bad k s b cap v fits ev n u eu f)
 
 -- a creation that is done leaves the empty tree
 pub creates_made : (k : Kind) (s : Pieces) (b : List Side) (cap : ℕ) (v : Bool) → Decides v (Fits k s) → v ≡ true → (u : Bool) → u ≡ acceptable b
-    → (a : Creation) (most : ℕ) → a ≡ creation_of u cap → a ≡ Made most
+    → (a : Result ℕ Refusal) (most : ℕ) → a ≡ creation_of u cap → a ≡ Ok most
     → (m : ℕ) → Named k m → Regular k → (cs es : List Float) → zip_with (λ c e. record { corner = c; extent = e }) cs es ≡ b → length cs ≡ k.axes → length es ≡ k.axes → All F64 cs → All F64 es
     → (h n' x' : List ℕ) → length h ≡ length s.head → length n' ≡ length s.nodes → length x' ≡ length s.links → words h ≡ put_head k.axes (words s.head) cs es most
     → Empties (ways k) (pool s.nodes s.links) (pool n' x') 1 → Creates k b cap s (pieces h n' x' s.points) 0

@@ -7,6 +7,7 @@ pub mod Worlds
 pub mod Clears
 pub mod Deals
 pub mod Joins
+pub mod Held
 pub mod Steps
 pub mod Down
 pub mod Read

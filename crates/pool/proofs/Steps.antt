@@ -2,27 +2,23 @@
 use mathlib.Core.Path.{◌≡◌, ap, ap₂, sym, subst, ◌∙◌}
 use mathlib.Core.Logic.{◌≢◌}
 use mathlib.Core.List.{List}
-use Prim.Native.Nat.{ℕ, zero, suc, ◌+◌, ◌-◌, ◌*◌, ◌%◌, ◌<◌, ◌≤◌}
+use Prim.Native.Nat.{ℕ, zero, suc, ◌+◌, ◌*◌, ◌<◌, ◌≤◌, min}
 use native.Mathlib.Omega.{arith}
 use lib.ListN.{length, get_or, set}
-use lib.Seq.{set-get_or}
 use Rattle.words.specs.Words.{words}
 use Rattle.words.proofs.Words.{words_out, words_set_out}
-use Rattle.pool.specs.Writes.{both, kid, counted, lowered, ended, appended, relasted, cut_out, popped, pushed, taken, given}
+use Rattle.pool.specs.Writes.{both, kid, lowered, ended, appended, relasted, cut_out, popped, pushed, taken, given}
 use Rattle.pool.specs.Meanings.{Appends, Cuts, TakesPlace, GivesPlace, TakesGroup, GivesGroup}
-use Rattle.pool.proofs.Lists.{ifz-yes, ifz-no}
+use Rattle.pool.proofs.Lists.{by-eq}
 use Rattle.pool.proofs.Leaves.{app_first, app_later, cut_first, cut_later}
 use Rattle.pool.proofs.Worlds.{append_world, cut_world, take_place_world, push_world, take_group_world, give_world}
 
--- ---- a node that no slice has
-pub far_field : (s : List ℕ) (i f : ℕ) → length s < 18446744073709551616 → 1152921504606846976 ≤ i → 0 ≡ get_or (words s) (4 * i + f) 0
-far_field s i f ls h = sym (words_out s (4 * i + f) (omega arith))
+-- ---- a node that no slice has: the number of its words stops at the largest that is no place
+pub far_field : (s : List ℕ) (k j : ℕ) → length s < 18446744073709551616 → j ≡ min k 18446744073709551615 → get_or (words s) j 0 ≡ get_or (words s) k 0
+far_field s k j ls e = by-eq j k (ap (λ w. get_or (words s) w 0)) (λ ne. words_out s j (omega (arith, ne)) ∙ sym (words_out s k (omega (arith, ne))))
 
-pub far_set : (s : List ℕ) (i f v : ℕ) → length s < 18446744073709551616 → 1152921504606846976 ≤ i → words s ≡ set (words s) (4 * i + f) v
-far_set s i f v ls h = words_set_out s (4 * i + f) v (omega arith)
-
-pub plain_at : (n : List ℕ) (i r : ℕ) → r ≡ get_or n (4 * i + 0) 0 → r ≡ get_or n (4 * i) 0
-plain_at n i r e = e ∙ ap (λ w. get_or n w 0) (omega arith)
+pub far_set : (s : List ℕ) (k j v : ℕ) → length s < 18446744073709551616 → j ≡ min k 18446744073709551615 → set (words s) j v ≡ set (words s) k v
+far_set s k j v ls e = by-eq j k (ap (λ w. set (words s) w v)) (λ ne. sym (words_set_out s j v (omega (arith, ne))) ∙ words_set_out s k v (omega (arith, ne)))
 
 -- at most 255 ways of 32 bits
 pub product_small : (w k : ℕ) → w < 256 → k < 4294967296 → w * k ≤ 1095216660225
@@ -34,27 +30,7 @@ product_small w k lw lk = omega (arith, up_to 255 w (omega arith))
     up_to (suc j) zero h = omega arith
     up_to (suc j) (suc w) h = omega (arith, up_to j w (omega arith))
 
--- ---- counts
-pub counts_up : (n m : List ℕ) (i v : ℕ) → v ≡ get_or n (4 * i + 3) 0 → m ≡ set n (4 * i + 3) ((v + 1) % 4294967296) → m ≡ counted n i
-unfolding counted
-counts_up n m i v ev e = e ∙ ap (λ w. set n (4 * i + 3) ((w + 1) % 4294967296)) ev
-
-pub counts_down : (n m : List ℕ) (i v : ℕ) → v ≡ get_or n (4 * i + 3) 0 → m ≡ set n (4 * i + 3) (v - 1) → m ≡ lowered n i
-unfolding lowered
-counts_down n m i v ev e = e ∙ ap (λ w. set n (4 * i + 3) (w - 1)) ev
-
-pub counts_none : (n : List ℕ) (i v : ℕ) → v ≡ get_or n (4 * i + 3) 0 → v ≡ 0 → n ≡ lowered n i
-unfolding lowered
-counts_none n i v ev z = sym (ap (set n (4 * i + 3)) (gone (get_or n (4 * i + 3) 0) (sym ev ∙ z)) ∙ set-get_or n (4 * i + 3) 0)
-  where
-    gone : (a : ℕ) → a ≡ 0 → a - 1 ≡ a
-    gone a e = omega arith
-
 -- ---- lists
-pub ends : (n n1 m : List ℕ) (i p : ℕ) → n1 ≡ set n (4 * i + 2) p → m ≡ counted n1 i → m ≡ ended n i p
-unfolding ended
-ends n n1 m i p e1 e = e ∙ ap (λ w. counted w i) e1
-
 -- what a function does word by word, and so to a tree
 so : {A : Type 0} {r t : A} (P : A → Type 0) → r ≡ t → P t → (r ≡ t) × P r
 so P e h = (e, subst P (sym e) h)
@@ -68,14 +44,6 @@ pub appends_later : (n n1 x x1 x2 : List ℕ) (i p b : ℕ) → b ≡ get_or n (
     → (both n1 x2 ≡ appended (both n x) i p) × Appends (both n x) (both n1 x2) i p
 appends_later n n1 x x1 x2 i p b eb z e1 e2 en =
     so (λ r. Appends (both n x) r i p) (ap₂ both en (e2 ∙ ap₂ (λ w v. set w v p) e1 eb) ∙ sym (app_later (both n x) i p (λ k. z (eb ∙ k)))) (append_world (both n x) i p)
-
-pub relast_yes : (n m : List ℕ) (i after b : ℕ) → after ≡ 0 → m ≡ set n (4 * i + 2) b → m ≡ relasted n i after b
-unfolding relasted
-relast_yes n m i after b z e = e ∙ sym (ifz-yes after _ _ z)
-
-pub relast_no : (n : List ℕ) (i after b : ℕ) → after ≢ 0 → n ≡ relasted n i after b
-unfolding relasted
-relast_no n i after b z = sym (ifz-no after _ _ z)
 
 pub cuts_first : (n n1 n2 n3 x : List ℕ) (i p b v : ℕ) → v ≡ get_or x p 0 → n1 ≡ lowered n i → n2 ≡ relasted n1 i v b → b ≡ 0 → n3 ≡ set n2 (4 * i + 1) v
     → (both n3 x ≡ cut_out (both n x) i p b) × Cuts (both n x) (both n3 x) i p b

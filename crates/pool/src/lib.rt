@@ -2,63 +2,80 @@
 // `ways` is how many children a node has, so that both trees use the same functions. Nothing here knows of coordinates.
 // Every function is total: a place or a node that is not there reads as 0 and is not written. 0 is no place and no group, and who appends it or gives it
 // back loses what is free; what is then written is defined too (`Writes`).
+// Kept: 0 for none, here and in the crates above, and not an `Option`: it is what stands in the lent words, and the definitions (`Chain`, `Free`, `appended`, `parted`, `either`) speak of it.
 #![tactic(auto)]
 
-ghost use Rattle.std.specs.Prelude.{◌≡◌, ◌+◌, ◌*◌, ◌<◌, get_or, set};
+ghost use Rattle.std.specs.Prelude.{◌≡◌, ◌+◌, ◌*◌, ◌<◌, get_or, min, set};
 ghost use Rattle.words.specs.Words.{words};
+ghost use Rattle.pool.specs.Held.{word_of};
 ghost use Rattle.pool.specs.Writes.{kid, counted, lowered};
 
 use words::{get, put};
 
-// No slice has a node from this number on, and four times a lower number does not wrap.
-const FAR: usize = 1152921504606846976;
+// Both slices, and how many children a node has.
+#[derive(Drop)]
+pub struct Pool<'a> {
+    pub ways: u8,
+    pub nodes: &'a mut [u8],
+    pub links: &'a mut [u8],
+}
+
+// The four words of a node, in their order.
+#[derive(Clone, Copy)]
+pub enum Word {
+    Group,
+    First,
+    Last,
+    Count,
+}
+
+// The number of a node's word, and of one that no slice has where the number would wrap.
+fn place_of(i: usize, f: Word) -> usize
+    ensures { result ≡ min (4 * i + word_of f) 18446744073709551615 }
+{
+    i.saturating_mul(4).saturating_add(f as usize)
+}
 
 // Word f of node i.
-fn field(nodes: &[u8], i: usize, f: u8) -> u32
-    ensures { result ≡ get_or (words nodes.now) (4 * i + f) 0 }
+fn field(nodes: &[u8], i: usize, f: Word) -> u32
+    ensures { result ≡ get_or (words nodes.now) (4 * i + word_of f) 0 }
 {
-    if i < FAR {
-        get(nodes, 4 * i + (f as usize))
-    } else {
-        0
-    }
+    get(nodes, place_of(i, f))
 }
 
 // Sets word f of node i.
-pub fn set_field(nodes: &mut [u8], i: usize, f: u8, v: u32)
-    ensures { words nodes.new ≡ set (words nodes.old) (4 * i + f) v }
+pub fn set_field(nodes: &mut [u8], i: usize, f: Word, v: u32)
+    ensures { words nodes.new ≡ set (words nodes.old) (4 * i + word_of f) v }
 {
-    if i < FAR {
-        put(nodes, 4 * i + (f as usize), v);
-    }
+    put(nodes, place_of(i, f), v);
 }
 
 // The group of node i's children, or 0 where it is undivided.
 pub fn group(nodes: &[u8], i: usize) -> u32
     ensures { result ≡ get_or (words nodes.now) (4 * i) 0 }
 {
-    field(nodes, i, 0)
+    field(nodes, i, Word::Group)
 }
 
 // The first place of node i's list, or 0.
 pub fn first(nodes: &[u8], i: usize) -> u32
     ensures { result ≡ get_or (words nodes.now) (4 * i + 1) 0 }
 {
-    field(nodes, i, 1)
+    field(nodes, i, Word::First)
 }
 
 // The last place of node i's list, or 0.
 pub fn last(nodes: &[u8], i: usize) -> u32
     ensures { result ≡ get_or (words nodes.now) (4 * i + 2) 0 }
 {
-    field(nodes, i, 2)
+    field(nodes, i, Word::Last)
 }
 
 // How many points are in node i and below.
 pub fn count(nodes: &[u8], i: usize) -> u32
     ensures { result ≡ get_or (words nodes.now) (4 * i + 3) 0 }
 {
-    field(nodes, i, 3)
+    field(nodes, i, Word::Count)
 }
 
 // The place after p in its list, or 0.
@@ -73,24 +90,23 @@ pub fn child(ways: u8, k: u32, c: u8) -> usize
     ensures value { result ≡ kid ways k c }
     ensures near { result < 1099511627776 }
 {
-    (ways as usize) * (k as usize) + (c as usize)
+    usize::from(ways) * k as usize + usize::from(c)
 }
 
 // Counts one point more in node i.
+#[tactic(auto, unfolding(crate::specs::Writes::counted))]
 pub fn count_up(nodes: &mut [u8], i: usize)
     ensures { words nodes.new ≡ counted (words nodes.old) i }
 {
     let v = count(nodes, i);
-    set_field(nodes, i, 3, ((v as u64 + 1) % 4294967296) as u32);
+    set_field(nodes, i, Word::Count, v.wrapping_add(1));
 }
 
 // Counts one point less in node i.
+#[tactic(auto, unfolding(crate::specs::Writes::lowered))]
 pub fn count_down(nodes: &mut [u8], i: usize)
     ensures { words nodes.new ≡ lowered (words nodes.old) i }
 {
     let v = count(nodes, i);
-    if v == 0 {
-        return;
-    }
-    set_field(nodes, i, 3, v - 1);
+    set_field(nodes, i, Word::Count, v.saturating_sub(1));
 }

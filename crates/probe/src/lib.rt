@@ -11,8 +11,9 @@ ghost use Rattle.geometry.specs.Sides.{sides2, sides3, place2, place3};
 ghost use Rattle.model.specs.Searches.{less};
 ghost use Rattle.knn.specs.Candidates.{Written, kept, ByModel, Offered, bar, ordered};
 
-use axis;
+use axis::{Side, span};
 use geometry::plane::{Point2D, Rectangle};
+use geometry::region::{Place, Region};
 use geometry::space::{Cube, Point3D};
 use knn_table::Table;
 
@@ -41,21 +42,25 @@ pub extern "C" fn probe_next_up(x: f64) -> f64
 pub extern "C" fn probe_span(lo: f64, hi: f64) -> f64
     ensures { result ≡ span binary64 lo hi }
 {
-    axis::span(lo, hi)
+    span(lo, hi)
 }
 
 #[unsafe(no_mangle)]
 pub extern "C" fn probe_midplane(corner: f64, extent: f64) -> f64
     ensures { result ≡ mid (side corner extent) }
 {
-    axis::midplane(corner, extent)
+    Side { corner, extent }.midplane()
 }
 
 #[unsafe(no_mangle)]
 pub extern "C" fn probe_axis_distance(v: f64, lo: f64, len: f64) -> f64
     ensures { result ≡ axis_distance (side lo len) v }
 {
-    axis::axis_distance(v, lo, len)
+    Side {
+        corner: lo,
+        extent: len,
+    }
+    .distance(v)
 }
 
 #[unsafe(no_mangle)]

@@ -1,4 +1,5 @@
 // C entry points to the octree's calls without the test of soundness, and to the test alone, for the benchmarks.
+// Kept: a file for each tree, since C knows no type parameter.
 #![tactic(auto)]
 
 ghost use Rattle.std.specs.Prelude.{[], ◌∷◌};
@@ -6,6 +7,8 @@ ghost use Rattle.model.specs.Boxes.{side};
 ghost use Rattle.model.specs.Calls.{octree, Insert, Delete, Contains, Radius, Box, Nearest};
 ghost use Rattle.trees.specs.Pieces.{pieces, Sane, Decides, DoesHeld, AsksHeld, SearchesHeld, room_for};
 
+use geometry::space::{Cube, Point3D};
+use pieces::{Pieces, reply, tell};
 use tree_insert::insert;
 use tree_queries::{ask, search};
 use tree_sound::sound;
@@ -14,7 +17,13 @@ use tree_sound::sound;
 pub extern "C" fn probe_octree_sound(head: &[u8], nodes: &[u8], links: &[u8], points: &[u8]) -> bool
     ensures { Decides result (Sane octree (pieces head.now nodes.now links.now points.now)) }
 {
-    sound(true, head, nodes, links, points)
+    let tree = Pieces {
+        head,
+        nodes,
+        links,
+        points,
+    };
+    sound::<Cube>(&tree)
 }
 
 #[unsafe(no_mangle)]
@@ -30,7 +39,8 @@ pub extern "C" fn probe_octree_insert(
 ) -> u32
     ensures { DoesHeld octree (Insert (record { at = x ∷ y ∷ z ∷ []; payload = mark })) (pieces head.now nodes.old links.old points.old) (pieces head.now nodes.new links.new points.new) result 0 }
 {
-    insert::insert(true, head, nodes, links, points, x, y, z, mark)
+    let at = Point3D { x, y, z };
+    reply(insert::insert::<Cube>(head, nodes, links, points, at, mark))
 }
 
 #[unsafe(no_mangle)]
@@ -46,7 +56,8 @@ pub extern "C" fn probe_octree_delete(
 ) -> u32
     ensures { DoesHeld octree (Delete (record { at = x ∷ y ∷ z ∷ []; payload = mark })) (pieces head.now nodes.old links.old points.now) (pieces head.now nodes.new links.new points.now) result 0 }
 {
-    tree_delete::delete(true, head, nodes, links, points, x, y, z, mark)
+    let at = Point3D { x, y, z };
+    reply(tree_delete::delete::<Cube>(head, nodes, links, points, at, mark))
 }
 
 #[unsafe(no_mangle)]
@@ -63,7 +74,14 @@ pub extern "C" fn probe_octree_contains(
 ) -> u32
     ensures { AsksHeld octree (Contains (record { at = x ∷ y ∷ z ∷ []; payload = mark })) (pieces head.now nodes.now links.now points.now) result yes.new }
 {
-    *yes = ask::contains(true, head, nodes, links, points, x, y, z, mark);
+    let tree = Pieces {
+        head,
+        nodes,
+        links,
+        points,
+    };
+    let at = Point3D { x, y, z };
+    *yes = u32::from(ask::contains::<Cube>(&tree, at, mark));
     0
 }
 
@@ -83,11 +101,15 @@ pub extern "C" fn probe_octree_range_search(
 ) -> u32
     ensures { SearchesHeld octree (Radius (x ∷ y ∷ z ∷ []) radius (room_for 3 coords.old payloads.old)) (pieces head.now nodes.now links.now points.now) coords.old payloads.old coords.new payloads.new result count.new }
 {
-    let told = search::range_search(
-        true, head, nodes, links, points, x, y, z, radius, coords, payloads,
-    );
-    *count = told.count;
-    told.reply
+    let tree = Pieces {
+        head,
+        nodes,
+        links,
+        points,
+    };
+    let center = Point3D { x, y, z };
+    let found = search::range_search::<Cube>(&tree, center, radius, coords, payloads);
+    tell(found, count)
 }
 
 #[unsafe(no_mangle)]
@@ -108,11 +130,22 @@ pub extern "C" fn probe_octree_range_search_bbox(
 ) -> u32
     ensures { SearchesHeld octree (Box (side x width ∷ side y height ∷ side z depth ∷ []) (room_for 3 coords.old payloads.old)) (pieces head.now nodes.now links.now points.now) coords.old payloads.old coords.new payloads.new result count.new }
 {
-    let told = search::range_search_bbox(
-        true, head, nodes, links, points, x, y, z, width, height, depth, coords, payloads,
-    );
-    *count = told.count;
-    told.reply
+    let tree = Pieces {
+        head,
+        nodes,
+        links,
+        points,
+    };
+    let query = Cube {
+        x,
+        y,
+        z,
+        width,
+        height,
+        depth,
+    };
+    let found = search::range_search_bbox(&tree, query, coords, payloads);
+    tell(found, count)
 }
 
 #[unsafe(no_mangle)]
@@ -131,9 +164,13 @@ pub extern "C" fn probe_octree_knn_search(
 ) -> u32
     ensures { SearchesHeld octree (Nearest (x ∷ y ∷ z ∷ []) k (room_for 3 coords.old payloads.old)) (pieces head.now nodes.now links.now points.now) coords.old payloads.old coords.new payloads.new result count.new }
 {
-    let told = search::knn_search(
-        true, head, nodes, links, points, x, y, z, k, coords, payloads,
-    );
-    *count = told.count;
-    told.reply
+    let tree = Pieces {
+        head,
+        nodes,
+        links,
+        points,
+    };
+    let target = Point3D { x, y, z };
+    let found = search::knn_search::<Cube>(&tree, target, k, coords, payloads);
+    tell(found, count)
 }

@@ -1,4 +1,5 @@
 // C entry points to the quadtree's calls without the test of soundness, and to the test alone, for the benchmarks.
+// Kept: a file for each tree, since C knows no type parameter.
 #![tactic(auto)]
 
 ghost use Rattle.std.specs.Prelude.{[], ◌∷◌};
@@ -6,6 +7,8 @@ ghost use Rattle.model.specs.Boxes.{side};
 ghost use Rattle.model.specs.Calls.{quadtree, Insert, Delete, Contains, Radius, Box, Nearest};
 ghost use Rattle.trees.specs.Pieces.{pieces, Sane, Decides, DoesHeld, AsksHeld, SearchesHeld, room_for};
 
+use geometry::plane::{Point2D, Rectangle};
+use pieces::{Pieces, reply, tell};
 use tree_insert::insert;
 use tree_queries::{ask, search};
 use tree_sound::sound;
@@ -19,7 +22,13 @@ pub extern "C" fn probe_quadtree_sound(
 ) -> bool
     ensures { Decides result (Sane quadtree (pieces head.now nodes.now links.now points.now)) }
 {
-    sound(false, head, nodes, links, points)
+    let tree = Pieces {
+        head,
+        nodes,
+        links,
+        points,
+    };
+    sound::<Rectangle>(&tree)
 }
 
 #[unsafe(no_mangle)]
@@ -34,7 +43,8 @@ pub extern "C" fn probe_quadtree_insert(
 ) -> u32
     ensures { DoesHeld quadtree (Insert (record { at = x ∷ y ∷ []; payload = mark })) (pieces head.now nodes.old links.old points.old) (pieces head.now nodes.new links.new points.new) result 0 }
 {
-    insert::insert(false, head, nodes, links, points, x, y, 0.0, mark)
+    let at = Point2D { x, y };
+    reply(insert::insert::<Rectangle>(head, nodes, links, points, at, mark))
 }
 
 #[unsafe(no_mangle)]
@@ -49,7 +59,8 @@ pub extern "C" fn probe_quadtree_delete(
 ) -> u32
     ensures { DoesHeld quadtree (Delete (record { at = x ∷ y ∷ []; payload = mark })) (pieces head.now nodes.old links.old points.now) (pieces head.now nodes.new links.new points.now) result 0 }
 {
-    tree_delete::delete(false, head, nodes, links, points, x, y, 0.0, mark)
+    let at = Point2D { x, y };
+    reply(tree_delete::delete::<Rectangle>(head, nodes, links, points, at, mark))
 }
 
 #[unsafe(no_mangle)]
@@ -65,7 +76,14 @@ pub extern "C" fn probe_quadtree_contains(
 ) -> u32
     ensures { AsksHeld quadtree (Contains (record { at = x ∷ y ∷ []; payload = mark })) (pieces head.now nodes.now links.now points.now) result yes.new }
 {
-    *yes = ask::contains(false, head, nodes, links, points, x, y, 0.0, mark);
+    let tree = Pieces {
+        head,
+        nodes,
+        links,
+        points,
+    };
+    let at = Point2D { x, y };
+    *yes = u32::from(ask::contains::<Rectangle>(&tree, at, mark));
     0
 }
 
@@ -84,11 +102,15 @@ pub extern "C" fn probe_quadtree_range_search(
 ) -> u32
     ensures { SearchesHeld quadtree (Radius (x ∷ y ∷ []) radius (room_for 2 coords.old payloads.old)) (pieces head.now nodes.now links.now points.now) coords.old payloads.old coords.new payloads.new result count.new }
 {
-    let told = search::range_search(
-        false, head, nodes, links, points, x, y, 0.0, radius, coords, payloads,
-    );
-    *count = told.count;
-    told.reply
+    let tree = Pieces {
+        head,
+        nodes,
+        links,
+        points,
+    };
+    let center = Point2D { x, y };
+    let found = search::range_search::<Rectangle>(&tree, center, radius, coords, payloads);
+    tell(found, count)
 }
 
 #[unsafe(no_mangle)]
@@ -107,11 +129,20 @@ pub extern "C" fn probe_quadtree_range_search_bbox(
 ) -> u32
     ensures { SearchesHeld quadtree (Box (side x width ∷ side y height ∷ []) (room_for 2 coords.old payloads.old)) (pieces head.now nodes.now links.now points.now) coords.old payloads.old coords.new payloads.new result count.new }
 {
-    let told = search::range_search_bbox(
-        false, head, nodes, links, points, x, y, 0.0, width, height, 0.0, coords, payloads,
-    );
-    *count = told.count;
-    told.reply
+    let tree = Pieces {
+        head,
+        nodes,
+        links,
+        points,
+    };
+    let query = Rectangle {
+        x,
+        y,
+        width,
+        height,
+    };
+    let found = search::range_search_bbox(&tree, query, coords, payloads);
+    tell(found, count)
 }
 
 #[unsafe(no_mangle)]
@@ -129,9 +160,13 @@ pub extern "C" fn probe_quadtree_knn_search(
 ) -> u32
     ensures { SearchesHeld quadtree (Nearest (x ∷ y ∷ []) k (room_for 2 coords.old payloads.old)) (pieces head.now nodes.now links.now points.now) coords.old payloads.old coords.new payloads.new result count.new }
 {
-    let told = search::knn_search(
-        false, head, nodes, links, points, x, y, 0.0, k, coords, payloads,
-    );
-    *count = told.count;
-    told.reply
+    let tree = Pieces {
+        head,
+        nodes,
+        links,
+        points,
+    };
+    let target = Point2D { x, y };
+    let found = search::knn_search::<Rectangle>(&tree, target, k, coords, payloads);
+    tell(found, count)
 }

@@ -4,39 +4,23 @@
 ghost use Rattle.std.specs.Prelude.{false, ◌≡◌, ◌≤◌, ◌<◌, length};
 ghost use Rattle.model.specs.Calls.{broken};
 ghost use Rattle.trees.specs.Pieces.{pieces};
-ghost use Rattle.tree.specs.Depths.{kind};
+ghost use Rattle.record.specs.Commands.{understood};
 ghost use Rattle.replies.specs.Programs.{Keeps, longest};
-ghost use Rattle.commands.specs.Commands.{says};
 ghost use Rattle.turns.specs.Places.{Ran, Turned, first, does_go_on};
 ghost use Rattle.turns.specs.declared.Next.TheVariants as next_is;
 
+use commands::Program;
 use std::io::{Read, Write};
+use tree::kind::Tree;
 use turns::{Next, Place, work};
 
-// Says on standard error that the input could not be read. Where that fails too, nothing is left to tell.
-fn tell_unread<E: Write>(deep: bool, errors: &mut E) {
-    if deep {
-        tell(errors, b"oct: the input could not be read\n");
-    } else {
-        tell(errors, b"quad: the input could not be read\n");
-    }
-}
-
-fn tell_unwritten<E: Write>(deep: bool, errors: &mut E) {
-    if deep {
-        tell(errors, b"oct: answers could not be written\n");
-    } else {
-        tell(errors, b"quad: answers could not be written\n");
-    }
-}
-
-fn tell<E: Write>(errors: &mut E, text: &[u8]) {
-    let _told = errors.write_all(text).is_ok();
+// Says on standard error which program failed, and how. Where that fails too, nothing is left to tell.
+fn tell<R: Program, E: Write>(errors: &mut E, how: &[u8]) {
+    let _told = errors.write_all(R::word()).is_ok() && errors.write_all(how).is_ok();
 }
 
 // Reads, where that comes next, and says how many bytes came: none at the end of the input. There is room for one at least.
-fn fetch<I: Read, E: Write>(
-    deep: bool,
+fn fetch<R: Program, I: Read, E: Write>(
     next: Next,
     input: &mut I,
     errors: &mut E,
@@ -49,32 +33,28 @@ fn fetch<I: Read, E: Write>(
         Next::Read => match input.read(text) {
             Ok(got) => got,
             Err(_) => {
-                tell_unread(deep, errors);
+                tell::<R, E>(errors, b": the input could not be read\n");
                 0
             }
         },
-        Next::Work => 0,
-        Next::Done => 0,
+        Next::Work | Next::Done => 0,
     }
 }
 
 // Writes answers, and says whether that could be done.
-fn hand_on<O: Write, E: Write>(deep: bool, output: &mut O, errors: &mut E, answers: &[u8]) -> bool {
+fn hand_on<R: Program, O: Write, E: Write>(output: &mut O, errors: &mut E, answers: &[u8]) -> bool {
     let written = output.write_all(answers).is_ok();
     if !written {
-        tell_unwritten(deep, errors);
+        tell::<R, E>(errors, b": answers could not be written\n");
     }
     written
 }
 
+#[tactic(auto, unfolding(turns::specs::Places::does_go_on))]
 fn goes_on(next: Next) -> bool
     ensures { result ≡ does_go_on next }
 {
-    match next {
-        Next::Read => true,
-        Next::Work => true,
-        Next::Done => false,
-    }
+    !matches!(next, Next::Done)
 }
 
 // Where a program begins.
@@ -92,8 +72,7 @@ fn begin() -> Place
 }
 
 // Answers the records of standard input on standard output, from pieces that hold no tree, till the input ends or answers cannot be written. Returns the place that was reached.
-fn take_turns<I: Read, O: Write, E: Write>(
-    deep: bool,
+fn take_turns<R: Program, I: Read, O: Write, E: Write>(
     input: &mut I,
     output: &mut O,
     errors: &mut E,
@@ -104,69 +83,55 @@ fn take_turns<I: Read, O: Write, E: Write>(
     text: &mut [u8],
     out: &mut [u8],
 ) -> Place
-    requires { (133 < length text.old) × (longest (kind deep).axes ≤ length out.old) × Keeps (kind deep) false (pieces head.old nodes.old links.old points.old) broken }
-    ensures { Turned (kind deep) (says deep) result (pieces head.new nodes.new links.new points.new) text.new }
+    requires { (133 < length text.old) × (longest R.kind.axes ≤ length out.old) × Keeps R.kind false (pieces head.old nodes.old links.old points.old) broken }
+    ensures { Turned R.kind (understood R.made R.kind.axes) result (pieces head.new nodes.new links.new points.new) text.new }
 {
     let mut place = begin();
-    let mut going = true;
     // Nothing says that the input ends, so turns are counted.
-    let mut turns = u64::MAX;
-    while turns > 0 && going {
+    for _turn in 0..u64::MAX {
         let end = place.end;
         let next = place.next;
-        let got = fetch(deep, next, input, errors, &mut text[end..]);
-        place = work(deep, place, got, head, nodes, links, points, text, out);
+        let got = fetch::<R, I, E>(next, input, errors, &mut text[end..]);
+        place = work::<R>(place, got, head, nodes, links, points, text, out);
         let ready = place.ready;
         let after = place.next;
-        going = hand_on(deep, output, errors, &out[0..ready]) & goes_on(after);
-        turns -= 1;
+        if !hand_on::<R, O, E>(output, errors, &out[0..ready]) {
+            return place;
+        }
+        if !goes_on(after) {
+            return place;
+        }
     }
     place
 }
 
-// The command program of either tree, over arrays of its own. Returns the place that was reached.
-pub fn run<I: Read, O: Write, E: Write>(
-    deep: bool,
+// The command program of a tree, over arrays of its own, which are as large as the larger tree's: of those for which the trees differ, this tree is lent its part.
+// Returns the place that was reached.
+pub fn run<R: Program, I: Read, O: Write, E: Write>(
     input: &mut I,
     output: &mut O,
     errors: &mut E,
 ) -> Place
-    ensures { Ran (kind deep) (says deep) result }
+    ensures { Ran R.kind (understood R.made R.kind.axes) result }
 {
     let mut text: [u8; 65536] = [0; 65536];
     let mut out: [u8; 65536] = [0; 65536];
+    let mut head: [u8; 56] = [0; 56];
+    let mut nodes: [u8; 5504] = [0; 5504];
     let mut links: [u8; 2052] = [0; 2052];
-    if deep {
-        let mut head: [u8; 56] = [0; 56];
-        let mut nodes: [u8; 5248] = [0; 5248];
-        let mut points: [u8; 16416] = [0; 16416];
-        take_turns(
-            true,
-            input,
-            output,
-            errors,
-            &mut head,
-            &mut nodes,
-            &mut links,
-            &mut points,
-            &mut text,
-            &mut out,
-        )
-    } else {
-        let mut head: [u8; 40] = [0; 40];
-        let mut nodes: [u8; 5504] = [0; 5504];
-        let mut points: [u8; 12312] = [0; 12312];
-        take_turns(
-            false,
-            input,
-            output,
-            errors,
-            &mut head,
-            &mut nodes,
-            &mut links,
-            &mut points,
-            &mut text,
-            &mut out,
-        )
-    }
+    let mut points: [u8; 16416] = [0; 16416];
+    let axes = R::axes() as usize;
+    let ways = R::ways() as usize;
+    let rows = R::rows() as usize;
+    take_turns::<R, I, O, E>(
+        input,
+        output,
+        errors,
+        &mut head[..16 * axes + 8],
+        &mut nodes[..16 * (ways * rows + ways)],
+        &mut links,
+        &mut points[..4104 * (axes + 1)],
+        &mut text,
+        &mut out,
+    )
 }

@@ -1,6 +1,8 @@
 // The quadtree's command program.
 #![tactic(auto)]
 
+use geometry::plane::Rectangle;
+
 fn main(rt: HostRuntime) {
-    program::run(false, &mut rt.stdin(), &mut rt.stdout(), &mut rt.stderr());
+    program::run::<Rectangle, _, _, _>(&mut rt.stdin(), &mut rt.stdout(), &mut rt.stderr());
 }

@@ -1,10 +1,14 @@
-// The calls of `quadtree` as C functions, with its names and its contracts: what a host links.
+// The calls of `calls` on a quadtree as C functions: what a host links.
+// Kept: numbers, slices and a reply number for each call, and a file for each tree: this is the C interface.
 #![tactic(auto)]
 
 ghost use Rattle.std.specs.Prelude.{[], ◌∷◌};
 ghost use Rattle.model.specs.Boxes.{side};
 ghost use Rattle.model.specs.Calls.{quadtree, Create, Insert, Bulk, Delete, Clear, Contains, Len, IsEmpty, Radius, Box, Nearest};
 ghost use Rattle.trees.specs.Pieces.{pieces, Does, Asks, Searches, room_for, lent};
+
+use geometry::plane::{Point2D, Rectangle};
+use pieces::{Pieces, reply, tell, tell_yes};
 
 // An empty tree with this boundary and capacity.
 #[unsafe(no_mangle)]
@@ -21,7 +25,13 @@ pub extern "C" fn quadtree_create(
 ) -> u32
     ensures { Does quadtree (Create (side x width ∷ side y height ∷ []) capacity) (pieces head.old nodes.old links.old points.now) (pieces head.new nodes.new links.new points.now) result 0 }
 {
-    quadtree::quadtree_create(head, nodes, links, points, x, y, width, height, capacity)
+    let bounds = Rectangle {
+        x,
+        y,
+        width,
+        height,
+    };
+    reply(calls::create(head, nodes, links, points, bounds, capacity))
 }
 
 // Stores a point.
@@ -37,7 +47,8 @@ pub extern "C" fn quadtree_insert(
 ) -> u32
     ensures { Does quadtree (Insert (record { at = x ∷ y ∷ []; payload = mark })) (pieces head.now nodes.old links.old points.old) (pieces head.now nodes.new links.new points.new) result 0 }
 {
-    quadtree::quadtree_insert(head, nodes, links, points, x, y, mark)
+    let at = Point2D { x, y };
+    reply(calls::insert::<Rectangle>(head, nodes, links, points, at, mark))
 }
 
 // Stores many points: as many as both slices hold. How many were stored is handed over.
@@ -53,7 +64,9 @@ pub extern "C" fn quadtree_insert_bulk(
 ) -> u32
     ensures { Does quadtree (Bulk (lent 2 coords.now payloads.now)) (pieces head.now nodes.old links.old points.old) (pieces head.now nodes.new links.new points.new) result stored.new }
 {
-    quadtree::quadtree_insert_bulk(head, nodes, links, points, coords, payloads, stored)
+    let bulk = calls::insert_bulk::<Rectangle>(head, nodes, links, points, coords, payloads);
+    *stored = bulk.count;
+    reply(bulk.done)
 }
 
 // Takes the first equal point out.
@@ -69,7 +82,8 @@ pub extern "C" fn quadtree_delete(
 ) -> u32
     ensures { Does quadtree (Delete (record { at = x ∷ y ∷ []; payload = mark })) (pieces head.now nodes.old links.old points.now) (pieces head.now nodes.new links.new points.now) result 0 }
 {
-    quadtree::quadtree_delete(head, nodes, links, points, x, y, mark)
+    let at = Point2D { x, y };
+    reply(calls::delete::<Rectangle>(head, nodes, links, points, at, mark))
 }
 
 // Leaves one empty root, with boundary and capacity as they were.
@@ -82,7 +96,7 @@ pub extern "C" fn quadtree_clear(
 ) -> u32
     ensures { Does quadtree Clear (pieces head.now nodes.old links.old points.now) (pieces head.now nodes.new links.new points.now) result 0 }
 {
-    quadtree::quadtree_clear(head, nodes, links, points)
+    reply(calls::clear::<Rectangle>(head, nodes, links, points))
 }
 
 // Whether an equal point is held: 1 or 0 is handed over.
@@ -99,7 +113,14 @@ pub extern "C" fn quadtree_contains(
 ) -> u32
     ensures { Asks quadtree (Contains (record { at = x ∷ y ∷ []; payload = mark })) (pieces head.now nodes.now links.now points.now) result yes.new }
 {
-    quadtree::quadtree_contains(head, nodes, links, points, x, y, mark, yes)
+    let tree = Pieces {
+        head,
+        nodes,
+        links,
+        points,
+    };
+    let at = Point2D { x, y };
+    tell_yes(calls::contains::<Rectangle>(&tree, at, mark), yes)
 }
 
 // How many points are held.
@@ -113,7 +134,13 @@ pub extern "C" fn quadtree_len(
 ) -> u32
     ensures { Asks quadtree Len (pieces head.now nodes.now links.now points.now) result count.new }
 {
-    quadtree::quadtree_len(head, nodes, links, points, count)
+    let tree = Pieces {
+        head,
+        nodes,
+        links,
+        points,
+    };
+    tell(calls::len::<Rectangle>(&tree), count)
 }
 
 // Whether no point is held: 1 or 0 is handed over.
@@ -127,7 +154,13 @@ pub extern "C" fn quadtree_is_empty(
 ) -> u32
     ensures { Asks quadtree IsEmpty (pieces head.now nodes.now links.now points.now) result yes.new }
 {
-    quadtree::quadtree_is_empty(head, nodes, links, points, yes)
+    let tree = Pieces {
+        head,
+        nodes,
+        links,
+        points,
+    };
+    tell_yes(calls::is_empty::<Rectangle>(&tree), yes)
 }
 
 // The points within a radius.
@@ -146,9 +179,15 @@ pub extern "C" fn quadtree_range_search(
 ) -> u32
     ensures { Searches quadtree (Radius (x ∷ y ∷ []) radius (room_for 2 coords.old payloads.old)) (pieces head.now nodes.now links.now points.now) coords.old payloads.old coords.new payloads.new result count.new }
 {
-    quadtree::quadtree_range_search(
-        head, nodes, links, points, x, y, radius, coords, payloads, count,
-    )
+    let tree = Pieces {
+        head,
+        nodes,
+        links,
+        points,
+    };
+    let center = Point2D { x, y };
+    let found = calls::range_search::<Rectangle>(&tree, center, radius, coords, payloads);
+    tell(found, count)
 }
 
 // The points in a box.
@@ -168,9 +207,20 @@ pub extern "C" fn quadtree_range_search_bbox(
 ) -> u32
     ensures { Searches quadtree (Box (side x width ∷ side y height ∷ []) (room_for 2 coords.old payloads.old)) (pieces head.now nodes.now links.now points.now) coords.old payloads.old coords.new payloads.new result count.new }
 {
-    quadtree::quadtree_range_search_bbox(
-        head, nodes, links, points, x, y, width, height, coords, payloads, count,
-    )
+    let tree = Pieces {
+        head,
+        nodes,
+        links,
+        points,
+    };
+    let query = Rectangle {
+        x,
+        y,
+        width,
+        height,
+    };
+    let found = calls::range_search_bbox(&tree, query, coords, payloads);
+    tell(found, count)
 }
 
 // The k nearest points.
@@ -189,5 +239,13 @@ pub extern "C" fn quadtree_knn_search(
 ) -> u32
     ensures { Searches quadtree (Nearest (x ∷ y ∷ []) k (room_for 2 coords.old payloads.old)) (pieces head.now nodes.now links.now points.now) coords.old payloads.old coords.new payloads.new result count.new }
 {
-    quadtree::quadtree_knn_search(head, nodes, links, points, x, y, k, coords, payloads, count)
+    let tree = Pieces {
+        head,
+        nodes,
+        links,
+        points,
+    };
+    let target = Point2D { x, y };
+    let found = calls::knn_search::<Rectangle>(&tree, target, k, coords, payloads);
+    tell(found, count)
 }

@@ -3,7 +3,7 @@ use Prim.Native.Nat.{ℕ, ◌+◌, ◌-◌, ◌*◌, ◌^◌, ◌≤◌, ◌<◌
 use mathlib.Core.Path.{◌≡◌, refl, sym, ap, ◌∙◌, subst}
 use mathlib.Core.Bool.{Bool, true, false, not, ◌&&◌, ◌||◌, and-false, and-eq-true_iff}
 use mathlib.Core.List.{List, [], ◌∷◌}
-use mathlib.Core.Option.{none, some}
+use Rattle.std.specs.Prelude.{None, Some}
 use native.Mathlib.Nat.{le_refl, le_trans, pow-succ', pow-le-pow_right, lt_of_lt_of_le}
 use native.Mathlib.Numerals.{add-one}
 use native.Mathlib.Omega.{arith}
@@ -13,7 +13,7 @@ use lib.Dec.{T, eqb, ltb}
 use lib.Ieee.{binary64, of_bits}
 use borrow.Author.Tests.{lt-ltb, le-ltb, le-leb, lt-leb, eq-eqb, ne_eqb, ltb-true, ltb-false}
 use mir.Val.{bool_byte}
-use Rattle.record.specs.Numbers.{digit, digits, value, led, number_of, whole_of}
+use Rattle.record.specs.Numbers.{digit, digits, value, led, number_of, whole_of, glyph}
 
 -- ---- a digit by its tests
 
@@ -76,6 +76,16 @@ tests_digit b e f = go (ltb 57 b) refl f
     go true q f = let h : 65 ≤ b = ltb-false b 65 f in let k = tests_high b e in rw (lt-ltb 64 b h) ((omega arith) ∙ digit_letter b h (omega arith))
     go false q f = let h : b ≤ 57 = ltb-false 57 b q in let k = tests_low b e in rw (le-ltb 64 b (omega arith)) ((omega arith) ∙ digit_decimal b k (omega arith))
 
+-- ---- the character of a digit: letters stand seven places after the digits
+
+pub glyph_is : (d : ℕ) → 48 + d + 7 * bool_byte (ltb 9 d) ≡ glyph d
+unfolding glyph
+glyph_is d = go (ltb d 10) refl
+  where
+    go : (t : Bool) → ltb d 10 ≡ t → 48 + d + 7 * bool_byte (ltb 9 d) ≡ glyph d
+    go true q = let h = ltb-true d 10 q in simp (q, le-ltb 9 d (omega arith)) (omega arith)
+    go false q = let h = ltb-false d 10 q in simp (q, lt-ltb 9 d (omega arith)) (omega arith)
+
 -- ---- digits one after the other
 
 pub value_step : (base n : ℕ) (s : List ℕ) (i : ℕ) → i < length s → value base n (drop i s) ≡ value base (base * n + digit (get_or s i 0)) (drop (i + 1) s)
@@ -126,33 +136,33 @@ hex_fits n d i h k l =
 
 -- ---- the answers of the fields
 
-pub number_short : (s : List ℕ) → (length s ≡ 16 → ⊥) → none ≡ number_of s
+pub number_short : (s : List ℕ) → (length s ≡ 16 → ⊥) → None ≡ number_of s
 unfolding number_of
 number_short s h = simp (ne_eqb (length s) 16 h)
 
-pub number_bad : (s : List ℕ) → digits 16 s ≡ false → none ≡ number_of s
+pub number_bad : (s : List ℕ) → digits 16 s ≡ false → None ≡ number_of s
 unfolding number_of
 number_bad s e = simp (e, and-false)
 
-pub number_good : (s : List ℕ) (n : ℕ) → length s ≡ 16 → digits 16 s ≡ true → n ≡ value 16 0 s → some (of_bits binary64 n) ≡ number_of s
+pub number_good : (s : List ℕ) (n : ℕ) → length s ≡ 16 → digits 16 s ≡ true → n ≡ value 16 0 s → Some (of_bits binary64 n) ≡ number_of s
 unfolding number_of
 number_good s n l e q = simp (eq-eqb (length s) 16 l, e, q)
 
-pub whole_unled : (s : List ℕ) → led s ≡ false → none ≡ whole_of s
+pub whole_unled : (s : List ℕ) → led s ≡ false → None ≡ whole_of s
 unfolding whole_of
 whole_unled s e = simp e
 
-pub whole_bad : (s : List ℕ) → digits 10 s ≡ false → none ≡ whole_of s
+pub whole_bad : (s : List ℕ) → digits 10 s ≡ false → None ≡ whole_of s
 unfolding whole_of
 whole_bad s e = simp (e, and-false)
 
-pub whole_large : (s : List ℕ) (n i : ℕ) → 4294967295 < n → value 10 n (drop i s) ≡ value 10 0 s → none ≡ whole_of s
+pub whole_large : (s : List ℕ) (n i : ℕ) → 4294967295 < n → value 10 n (drop i s) ≡ value 10 0 s → None ≡ whole_of s
 unfolding whole_of
 whole_large s n i h e = simp (lt-leb (value 10 0 s) 4294967295 (omega (arith, value_least n (drop i s))), and-false)
 
-pub whole_good : (s : List ℕ) (n : ℕ) → led s ≡ true → digits 10 s ≡ true → n ≤ 4294967295 → n ≡ value 10 0 s → some n ≡ whole_of s
+pub whole_good : (s : List ℕ) (n : ℕ) → led s ≡ true → digits 10 s ≡ true → n ≤ 4294967295 → n ≡ value 10 0 s → Some n ≡ whole_of s
 unfolding whole_of
-whole_good s n l e h q = simp (l, e, le-leb (value 10 0 s) 4294967295 (omega arith)) (ap some q)
+whole_good s n l e h q = simp (l, e, le-leb (value 10 0 s) 4294967295 (omega arith)) (ap Some q)
 
 -- ---- the first digit
 

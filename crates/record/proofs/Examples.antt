@@ -3,7 +3,7 @@ use Prim.Native.Nat.{ℕ}
 use mathlib.Core.Path.{◌≡◌, refl}
 use mathlib.Core.Bool.{true, false}
 use mathlib.Core.List.{List, [], ◌∷◌, ◌++◌, zip_with}
-use mathlib.Core.Option.{Option, none, some}
+use Rattle.std.specs.Prelude.{Option, None, Some}
 use lib.IntN.{pos}
 use lib.ListN.{replicate}
 use lib.Ieee.{Float, fin, of_bits}
@@ -69,25 +69,25 @@ abbrev oct : List ℕ → Option Call
 oct = understood word_oct 3
 
 understood_records :
-    (quad (word_quad ++ x0 ++ x0 ++ x8 ++ x8 ++ 44 ∷ 49 ∷ []) ≡ some (Create (record { corner = zero; extent = eight } ∷ record { corner = zero; extent = eight } ∷ []) 1))
-    × (quad (word_insert ++ x4 ++ x1 ++ 44 ∷ 48 ∷ []) ≡ some (Insert (record { at = four ∷ one ∷ []; payload = 0 })))
-    × (quad (word_knn ++ x4 ++ x1 ++ largest) ≡ some (Ask (Nearest (four ∷ one ∷ []) 4294967295 512)))
-    × (quad word_clear ≡ some Clear)
-    × (oct (word_range ++ x4 ++ x1 ++ x0 ++ x3) ≡ some (Ask (Radius (four ∷ one ∷ zero ∷ []) three 512)))
+    (quad (word_quad ++ x0 ++ x0 ++ x8 ++ x8 ++ 44 ∷ 49 ∷ []) ≡ Some (Create (record { corner = zero; extent = eight } ∷ record { corner = zero; extent = eight } ∷ []) 1))
+    × (quad (word_insert ++ x4 ++ x1 ++ 44 ∷ 48 ∷ []) ≡ Some (Insert (record { at = four ∷ one ∷ []; payload = 0 })))
+    × (quad (word_knn ++ x4 ++ x1 ++ largest) ≡ Some (Ask (Nearest (four ∷ one ∷ []) 4294967295 512)))
+    × (quad word_clear ≡ Some Clear)
+    × (oct (word_range ++ x4 ++ x1 ++ x0 ++ x3) ≡ Some (Ask (Radius (four ∷ one ∷ zero ∷ []) three 512)))
 unfolding understood fields_call word_of floats_after whole_after numbers_of call_of zip_with split split_step grow has same number_of whole_of digits digit value led of_bits
 understood_records = (refl, refl, refl, refl, refl)
 
 -- lower-case hex, a leading zero, one too large, a quote, a field too many and too few, an empty record, an upper-case word, the other program's word
 refused_records :
-    (quad (word_insert ++ x4 ++ x1_lower ++ 44 ∷ 55 ∷ []) ≡ none)
-    × (quad (word_insert ++ x4 ++ x1 ++ 44 ∷ 48 ∷ 55 ∷ []) ≡ none)
-    × (quad (word_knn ++ x4 ++ x1 ++ too_large) ≡ none)
-    × (quad (34 ∷ word_len ++ 34 ∷ []) ≡ none)
-    × (quad (word_len ++ 44 ∷ []) ≡ none)
-    × (quad (word_insert ++ x4 ++ x1) ≡ none)
-    × (quad [] ≡ none)
-    × (quad (76 ∷ 101 ∷ 110 ∷ []) ≡ none)
-    × (oct (word_quad ++ x0 ++ x0 ++ x0 ++ x8 ++ x8 ++ x8 ++ 44 ∷ 49 ∷ []) ≡ none)
+    (quad (word_insert ++ x4 ++ x1_lower ++ 44 ∷ 55 ∷ []) ≡ None)
+    × (quad (word_insert ++ x4 ++ x1 ++ 44 ∷ 48 ∷ 55 ∷ []) ≡ None)
+    × (quad (word_knn ++ x4 ++ x1 ++ too_large) ≡ None)
+    × (quad (34 ∷ word_len ++ 34 ∷ []) ≡ None)
+    × (quad (word_len ++ 44 ∷ []) ≡ None)
+    × (quad (word_insert ++ x4 ++ x1) ≡ None)
+    × (quad [] ≡ None)
+    × (quad (76 ∷ 101 ∷ 110 ∷ []) ≡ None)
+    × (oct (word_quad ++ x0 ++ x0 ++ x0 ++ x8 ++ x8 ++ x8 ++ 44 ∷ 49 ∷ []) ≡ None)
 unfolding understood fields_call word_of floats_after whole_after numbers_of call_of zip_with split split_step grow has same number_of whole_of digits digit value led of_bits
 refused_records = (refl, refl, refl, refl, refl, refl, refl, refl, refl)
 
@@ -97,12 +97,12 @@ refused_records = (refl, refl, refl, refl, refl, refl, refl, refl, refl)
 document :
     records quad true
     (word_quad ++ x0 ++ x0 ++ x8 ++ x8 ++ 44 ∷ 49 ∷ 10 ∷ word_insert ++ x4 ++ x1 ++ 44 ∷ 55 ∷ 10 ∷ word_insert ++ x1 ++ x1 ++ 44 ∷ 57 ∷ 10 ∷ word_range ++ x4 ++ x1 ++ x3 ++ 10 ∷ word_delete ++ x4 ++ x1 ++ 44 ∷ 56 ∷ 10 ∷ word_len ++ 10 ∷ [])
-    ≡ some (Create (record { corner = zero; extent = eight } ∷ record { corner = zero; extent = eight } ∷ []) 1)
-    ∷ some (Insert (record { at = four ∷ one ∷ []; payload = 7 }))
-    ∷ some (Insert (record { at = one ∷ one ∷ []; payload = 9 }))
-    ∷ some (Ask (Radius (four ∷ one ∷ []) three 512))
-    ∷ some (Delete (record { at = four ∷ one ∷ []; payload = 8 }))
-    ∷ some (Ask Len)
+    ≡ Some (Create (record { corner = zero; extent = eight } ∷ record { corner = zero; extent = eight } ∷ []) 1)
+    ∷ Some (Insert (record { at = four ∷ one ∷ []; payload = 7 }))
+    ∷ Some (Insert (record { at = one ∷ one ∷ []; payload = 9 }))
+    ∷ Some (Ask (Radius (four ∷ one ∷ []) three 512))
+    ∷ Some (Delete (record { at = four ∷ one ∷ []; payload = 8 }))
+    ∷ Some (Ask Len)
     ∷ []
 unfolding understood fields_call word_of floats_after whole_after numbers_of call_of zip_with split split_step grow has same number_of whole_of digits digit value led of_bits records parts begun unmarked ended unended strip
 document = refl
@@ -111,23 +111,23 @@ document = refl
 ends :
     (records quad true [] ≡ [])
     × (records quad true mark ≡ [])
-    × (records quad true (239 ∷ 187 ∷ []) ≡ none ∷ [])
-    × (records quad true (mark ++ word_len ++ crlf ++ word_clear) ≡ some (Ask Len) ∷ none ∷ [])
-    × (records quad true (word_len ++ 10 ∷ mark ++ word_len ++ 10 ∷ []) ≡ some (Ask Len) ∷ none ∷ [])
-    × (records quad true (mark ++ mark ++ word_len ++ 10 ∷ []) ≡ none ∷ [])
-    × (records quad true (10 ∷ word_len ++ 10 ∷ []) ≡ none ∷ some (Ask Len) ∷ [])
-    × (records quad true (word_len ++ 13 ∷ crlf) ≡ none ∷ [])
-    × (records quad true (word_len ++ 13 ∷ word_len ++ 10 ∷ []) ≡ none ∷ [])
-    × (records quad true (word_len ++ 13 ∷ []) ≡ none ∷ [])
+    × (records quad true (239 ∷ 187 ∷ []) ≡ None ∷ [])
+    × (records quad true (mark ++ word_len ++ crlf ++ word_clear) ≡ Some (Ask Len) ∷ None ∷ [])
+    × (records quad true (word_len ++ 10 ∷ mark ++ word_len ++ 10 ∷ []) ≡ Some (Ask Len) ∷ None ∷ [])
+    × (records quad true (mark ++ mark ++ word_len ++ 10 ∷ []) ≡ None ∷ [])
+    × (records quad true (10 ∷ word_len ++ 10 ∷ []) ≡ None ∷ Some (Ask Len) ∷ [])
+    × (records quad true (word_len ++ 13 ∷ crlf) ≡ None ∷ [])
+    × (records quad true (word_len ++ 13 ∷ word_len ++ 10 ∷ []) ≡ None ∷ [])
+    × (records quad true (word_len ++ 13 ∷ []) ≡ None ∷ [])
 unfolding understood fields_call word_of floats_after whole_after numbers_of call_of zip_with split split_step grow has same number_of whole_of digits digit value led of_bits records parts begun unmarked ended unended strip
 ends = (refl, refl, refl, refl, refl, refl, refl, refl, refl, refl)
 
 -- 128 bytes before either line end, after the mark or not, and 129
 lengths :
-    (records (λ s. some Clear) true (replicate 128 97 ++ 10 ∷ []) ≡ some Clear ∷ [])
-    × (records (λ s. some Clear) true (replicate 128 97 ++ crlf) ≡ some Clear ∷ [])
-    × (records (λ s. some Clear) true (mark ++ replicate 128 97 ++ crlf) ≡ some Clear ∷ [])
-    × (records (λ s. some Clear) true (replicate 129 97 ++ 10 ∷ []) ≡ none ∷ [])
-    × (records (λ s. some Clear) true (replicate 129 97 ++ crlf ++ 10 ∷ []) ≡ none ∷ some Clear ∷ [])
+    (records (λ s. Some Clear) true (replicate 128 97 ++ 10 ∷ []) ≡ Some Clear ∷ [])
+    × (records (λ s. Some Clear) true (replicate 128 97 ++ crlf) ≡ Some Clear ∷ [])
+    × (records (λ s. Some Clear) true (mark ++ replicate 128 97 ++ crlf) ≡ Some Clear ∷ [])
+    × (records (λ s. Some Clear) true (replicate 129 97 ++ 10 ∷ []) ≡ None ∷ [])
+    × (records (λ s. Some Clear) true (replicate 129 97 ++ crlf ++ 10 ∷ []) ≡ None ∷ Some Clear ∷ [])
 unfolding understood fields_call word_of floats_after whole_after numbers_of call_of zip_with split split_step grow has same number_of whole_of digits digit value led of_bits records parts begun unmarked ended unended strip
 lengths = (refl, refl, refl, refl, refl)

@@ -1,13 +1,15 @@
 -- Laws of byte strings compared and cut into parts. Assumes nothing.
 use Prim.Native.Nat.{ℕ, zero, suc, ◌+◌, ◌-◌, ◌≤◌, ◌<◌, suc-le-suc}
 use mathlib.Core.Path.{◌≡◌, refl, sym, ap, ap₂, ◌∙◌, subst}
-use mathlib.Core.Bool.{Bool, true, false, and-eq-true_iff}
+use mathlib.Core.Bool.{Bool, true, false, ◌&&◌, and-eq-true_iff}
 use mathlib.Core.List.{List, [], ◌∷◌}
 use native.Mathlib.Nat.{not-suc-le-zero, le_of_suc-le-suc, le_of_eq}
 use native.Mathlib.Numerals.{add-one}
 use native.Mathlib.Omega.{arith}
 use lib.ListN.{length, get_or, take, drop, length-drop, drop_of_length-le}
 use lib.Seq.{drop-cons, take_all}
+use Rattle.std.specs.Prelude.{Option, None, Some, IfNone, IfSome, unwrap_or}
+use lib.Pointwise.{pointwise}
 use lib.Dec.{T, eqb, ltb}
 use borrow.Author.Tests.{eq-eqb, ne_eqb, eqb-true, ltb-true, ltb-false}
 use Rattle.record.specs.Text.{grow, split_step, split, same}
@@ -46,9 +48,25 @@ same_eq (a ∷ s) (b ∷ t) e =
     let q : s ≡ t = same_eq s t h.1 in
     cc
 
--- what a comparison that says so says
-pub same_no : (r : Bool) (s t : List ℕ) → (s ≡ t → r ≡ true) → r ≡ false → same s t ≡ false
-same_no r s t f e = is_no (same s t) (λ q. subst T (sym (f (same_eq s t q)) ∙ e) tt)
+pub same_is : (s t : List ℕ) → pointwise eqb s t ≡ same s t
+unfolding same
+same_is [] [] = refl
+same_is [] (b ∷ t) = refl
+same_is (a ∷ s) [] = refl
+same_is (a ∷ s) (b ∷ t) = ap (λ (r : Bool). eqb a b && r) (same_is s t)
+
+-- what a comparison of slices says
+pub says_same : (r : Bool) (s t u : List ℕ) → r ≡ pointwise eqb s t → t ≡ u → r ≡ true → s ≡ u
+says_same r s t u e f q = same_eq s t (sym (same_is s t) ∙ sym e ∙ q) ∙ f
+
+pub says_other : (r : Bool) (s t u : List ℕ) → r ≡ pointwise eqb s t → t ≡ u → r ≡ false → same s u ≡ false
+says_other r s t u e f q = ap (same s) (sym f) ∙ sym (same_is s t) ∙ sym e ∙ q
+
+-- where the first c is, or else the end: what the search for it says
+pub found_at : (s : List ℕ) (c e : ℕ) (o : Option ℕ) → e ≡ unwrap_or o (length s) → IfSome o (λ i. (i < length s) × (get_or s i 0 ≡ c)) → IfSome o (λ i. (k : ℕ) → k < i → get_or s k 0 ≡ c → ⊥) → IfNone o ((k : ℕ) → k < length s → get_or s k 0 ≡ c → ⊥)
+    → (e ≤ length s) × ((k : ℕ) → k < e → get_or s k 0 ≡ c → ⊥) × (e < length s → get_or s e 0 ≡ c)
+found_at s c e None q f g h = (omega arith, λ k l. h k (omega arith), λ l. absurd (omega arith))
+found_at s c e (Some i) q f g h = (omega (arith, f.0), λ k l. g k (omega arith), λ l. ap (λ (j : ℕ). get_or s j 0) q ∙ f.1)
 
 -- ---- parts between separators
 

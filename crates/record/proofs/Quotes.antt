@@ -3,7 +3,7 @@ use Prim.Native.Nat.{ℕ, zero, suc, ◌≤◌, ◌<◌}
 use mathlib.Core.Path.{◌≡◌, refl, sym, ap, ◌∙◌, subst}
 use mathlib.Core.Bool.{Bool, true, false, cond, ◌||◌}
 use mathlib.Core.List.{List, [], ◌∷◌}
-use mathlib.Core.Option.{Option, none, some}
+use Rattle.std.specs.Prelude.{Option, None, Some, option_map, option_and_then}
 use native.Mathlib.Omega.{arith}
 use lib.ListN.{length, get_or, take, drop}
 use lib.Dec.{T, eqb}
@@ -12,7 +12,7 @@ use borrow.Author.Tests.{eqb-true}
 use Rattle.model.specs.Calls.{Call}
 use Rattle.record.specs.Text.{grow, split_step, split, same, has}
 use Rattle.record.specs.Numbers.{digit, number_of, whole_of}
-use Rattle.record.specs.Commands.{Numbers, word_of, floats_after, whole_after, numbers_of, call_of, fields_call, understood, word_insert, word_delete, word_contains, word_range, word_knn, word_box, word_len, word_clear}
+use Rattle.record.specs.Commands.{word_of, floats_after, whole_after, numbers_of, call_of, fields_call, understood, word_oct, word_quad, word_insert, word_delete, word_contains, word_range, word_knn, word_box, word_len, word_clear}
 use Rattle.record.specs.Read.{rest}
 use Rattle.record.specs.declared.Word.{Word}
 use Rattle.record.proofs.Digits.{number_bad, whole_bad}
@@ -50,16 +50,16 @@ quote : digit 34 ≡ 16
 unfolding digit
 quote = refl
 
-number_quote : (s : List ℕ) → has 34 s ≡ true → number_of s ≡ none
+number_quote : (s : List ℕ) → has 34 s ≡ true → number_of s ≡ None
 number_quote s e = sym (number_bad s (digits_without 16 34 (omega arith) quote s e))
 
-whole_quote : (s : List ℕ) → has 34 s ≡ true → whole_of s ≡ none
+whole_quote : (s : List ℕ) → has 34 s ≡ true → whole_of s ≡ None
 whole_quote s e = sym (whole_bad s (digits_without 10 34 (omega arith) quote s e))
 
 same_quote : (s w : List ℕ) → has 34 s ≡ true → has 34 w ≡ false → same s w ≡ false
 same_quote s w e f = is_no (same s w) (λ q. subst T (sym e ∙ ap (has 34) (same_eq s w q) ∙ f) tt)
 
-word_quote : (made w : List ℕ) → has 34 made ≡ false → has 34 w ≡ true → Word.Bad ≡ word_of made w
+word_quote : (made w : List ℕ) → has 34 made ≡ false → has 34 w ≡ true → None ≡ word_of made w
 unfolding has
 word_quote made w m e =
     no_word made w record {
@@ -75,11 +75,11 @@ word_quote made w m e =
 
 -- ---- no call of it
 
-whole_not : (f : List ℕ) → whole_of f ≡ none → none ≡ numbers_of 0 true (f ∷ [])
+whole_not : (f : List ℕ) → whole_of f ≡ None → None ≡ numbers_of 0 true (f ∷ [])
 unfolding numbers_of
 whole_not f e = rw (e, numbers_of)
 
-numbers_quote : (n : ℕ) (due : Bool) (fs : List (List ℕ)) → quoted fs ≡ true → none ≡ numbers_of n due fs
+numbers_quote : (n : ℕ) (due : Bool) (fs : List (List ℕ)) → quoted fs ≡ true → None ≡ numbers_of n due fs
 unfolding quoted numbers_of more
 numbers_quote zero false [] e = no e
 numbers_quote zero false (f ∷ fs) e = refl
@@ -92,49 +92,46 @@ numbers_quote (suc n) due (f ∷ fs) e =
     (λ q. numbers_bad n due f fs (number_quote f q))
     (λ q. go (numbers_quote n due fs q) (number_of f) refl)
   where
-    go : none ≡ numbers_of n due fs → (o : Option Float) → number_of f ≡ o → none ≡ numbers_of (suc n) due (f ∷ fs)
-    go q none p = numbers_bad n due f fs p
-    go q (some x) p = ap (more x) q ∙ numbers_step n due f fs x p
+    go : None ≡ numbers_of n due fs → (o : Option Float) → number_of f ≡ o → None ≡ numbers_of (suc n) due (f ∷ fs)
+    go q None p = numbers_bad n due f fs p
+    go q (Some x) p = ap (more x) q ∙ numbers_step n due f fs x p
 
--- the call of a word and what its numbers are
-abbrev called : ℕ → Word → Option Numbers → Option Call
-called axes w none = none
-called axes w (some m) = call_of axes w m
+-- the call of a word and the fields after it
+abbrev pub worded : ℕ → List (List ℕ) → Word → Option Call
+worded axes fs v = option_map (call_of axes v) (numbers_of (floats_after axes v) (whole_after v) fs)
 
-called_bad : (axes : ℕ) (o : Option Numbers) → none ≡ called axes Word.Bad o
-unfolding call_of
-called_bad axes none = refl
-called_bad axes (some m) = refl
+worded_quote : (axes : ℕ) (fs : List (List ℕ)) → quoted fs ≡ true → (o : Option Word) → None ≡ option_and_then (worded axes fs) o
+worded_quote axes fs q None = refl
+worded_quote axes fs q (Some v) = ap (option_map (call_of axes v)) (numbers_quote (floats_after axes v) (whole_after v) fs q)
 
-called_is : (made : List ℕ) (axes : ℕ) (w : List ℕ) (fs : List (List ℕ)) → called axes (word_of made w) (numbers_of (floats_after axes (word_of made w)) (whole_after (word_of made w)) fs) ≡ fields_call made axes (w ∷ fs)
-unfolding fields_call
-called_is made axes w fs = go (numbers_of (floats_after axes (word_of made w)) (whole_after (word_of made w)) fs)
-  where
-    go : (o : Option Numbers) → called axes (word_of made w) o ≡ elim o [ none ↦ none | some m ↦ call_of axes (word_of made w) m ]
-    go none = refl
-    go (some m) = refl
-
-call_quote : (made : List ℕ) (axes : ℕ) → has 34 made ≡ false → (fs : List (List ℕ)) → quoted fs ≡ true → none ≡ fields_call made axes fs
-unfolding quoted
+call_quote : (made : List ℕ) (axes : ℕ) → has 34 made ≡ false → (fs : List (List ℕ)) → quoted fs ≡ true → None ≡ fields_call made axes fs
+unfolding quoted fields_call
 call_quote made axes m [] e = no e
 call_quote made axes m (w ∷ fs) e =
-    let o = numbers_of (floats_after axes (word_of made w)) (whole_after (word_of made w)) fs in
     by_or (has 34 w) (quoted fs) e
-    (λ q. called_bad axes o ∙ ap (λ (u : Word). called axes u o) (word_quote made w m q) ∙ called_is made axes w fs)
-    (λ q. ap (called axes (word_of made w)) (numbers_quote (floats_after axes (word_of made w)) (whole_after (word_of made w)) fs q) ∙ called_is made axes w fs)
+    (λ q. ap (option_and_then (worded axes fs)) (word_quote made w m q))
+    (λ q. worded_quote axes fs q (word_of made w))
 
 -- the call of a record is that of its fields, quote or not
 pub understood_is : (made : List ℕ) (axes : ℕ) (s : List ℕ) → has 34 made ≡ false → understood made axes s ≡ fields_call made axes (split 44 s)
 unfolding understood
 understood_is made axes s m = go (has 34 s) refl
   where
-    go : (t : Bool) → has 34 s ≡ t → cond t none (fields_call made axes (split 44 s)) ≡ fields_call made axes (split 44 s)
+    go : (t : Bool) → has 34 s ≡ t → cond t None (fields_call made axes (split 44 s)) ≡ fields_call made axes (split 44 s)
     go true e = call_quote made axes m (split 44 s) (quoted_split s ∙ e)
     go false e = refl
 
 -- the call of a record that is cut at its first comma
 pub understood_cut : (made : List ℕ) (axes : ℕ) (s : List ℕ) (e : ℕ) → has 34 made ≡ false → e ≤ length s → ((k : ℕ) → k < e → get_or s k 0 ≡ 44 → ⊥) → (e < length s → get_or s e 0 ≡ 44)
-    → understood made axes s
-    ≡ elim (numbers_of (floats_after axes (word_of made (take e s))) (whole_after (word_of made (take e s))) (rest (drop e s))) [ none ↦ none | some m ↦ call_of axes (word_of made (take e s)) m ]
+    → understood made axes s ≡ option_and_then (worded axes (rest (drop e s))) (word_of made (take e s))
 unfolding fields_call
 understood_cut made axes s e m h f g = understood_is made axes s m ∙ ap (fields_call made axes) (split_rest s e h f g)
+
+-- the words that make a tree have no quote
+pub plain_quad : has 34 word_quad ≡ false
+unfolding has
+plain_quad = refl
+
+pub plain_oct : has 34 word_oct ≡ false
+unfolding has
+plain_oct = refl

@@ -3,7 +3,7 @@ use Prim.Native.Nat.{ℕ, zero, suc, ◌+◌, ◌*◌, ◌/◌, ◌%◌, ◌^◌
 use mathlib.Core.Path.{◌≡◌, refl, sym, ap, ◌∙◌, subst}
 use mathlib.Core.Bool.{Bool, true, false, cond, ◌&&◌, and-true, and_assoc}
 use mathlib.Core.List.{List, [], ◌∷◌, ◌++◌}
-use mathlib.Core.Option.{some}
+use Rattle.std.specs.Prelude.{Some}
 use native.Mathlib.Nat.{mod-lt, div-add-mod', div-lt_iff_lt-mul, mul_comm, pow-succ', pow-zero, not-suc-le-zero}
 use native.Mathlib.Omega.{arith}
 use lib.ListN.{length, get_or, length-append, get_or-append}
@@ -68,14 +68,14 @@ spelt_value base (suc k) n p q h =
     ∙ div-add-mod' n base
 
 -- 16 hex digits of any 64 bits are read as the float with those bits
-bits_round : (n : ℕ) → n < 18446744073709551616 → number_of (spelt 16 16 n) ≡ some (of_bits binary64 n)
+bits_round : (n : ℕ) → n < 18446744073709551616 → number_of (spelt 16 16 n) ≡ Some (of_bits binary64 n)
 bits_round n h =
     sym (number_good (spelt 16 16 n) n (spelt_length 16 16 n) (spelt_digits 16 16 n (omega arith) (omega arith)) (sym (spelt_value 16 16 n (omega arith) (omega arith) h)))
 
 -- a float that is printed is read as the same float
-pub hex_round : (x : Float) → T (fits binary64 x) → number_of (hex x) ≡ some x
+pub hex_round : (x : Float) → T (fits binary64 x) → number_of (hex x) ≡ Some x
 unfolding hex
-hex_round x f = bits_round (to_bits binary64 x) (to_bits-lt binary64 x f) ∙ ap some (of_bits-to_bits binary64 x f)
+hex_round x f = bits_round (to_bits binary64 x) (to_bits-lt binary64 x f) ∙ ap Some (of_bits-to_bits binary64 x f)
 
 -- ---- no leading zero
 
@@ -132,7 +132,7 @@ placed n h =
     record { below = omega arith; leads = led_places 9 n g (omega arith) })))))))))
 
 -- a whole number that is printed is read as the same number
-pub whole_round : (n : ℕ) → n ≤ 4294967295 → whole_of (decimal n) ≡ some n
+pub whole_round : (n : ℕ) → n ≤ 4294967295 → whole_of (decimal n) ≡ Some n
 unfolding decimal
 whole_round n h =
     let p = placed n h in

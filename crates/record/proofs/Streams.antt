@@ -4,17 +4,19 @@ use Prim.Native.Nat.{ℕ, zero, suc, ◌+◌, ◌-◌, ◌≤◌, ◌<◌, suc-l
 use mathlib.Core.Path.{◌≡◌, refl, sym, ap, ap₂, ◌∙◌}
 use mathlib.Core.Bool.{Bool, true, false, cond}
 use mathlib.Core.List.{List, [], ◌∷◌, ◌++◌, append-nil}
-use mathlib.Core.Option.{Option, none}
+use Rattle.std.specs.Prelude.{Option, None, Some, MatchOption, unwrap_or}
 use native.Mathlib.Nat.{not-suc-le-zero}
 use native.Mathlib.Omega.{arith}
 use lib.ListN.{length, get_or, take, drop, get_or-append, length-append, length-take, length-drop}
-use lib.Seq.{take-append-le, drop-append-le, take-take, get_or-take, get_or-drop, drop-drop, length-take-le, take-nil, take-length, take_all}
-use lib.Dec.{eqb, leb}
-use borrow.Author.Tests.{lt-leb, eq-eqb, ne_eqb}
+use lib.Seq.{take-append-le, drop-append-le, take-take, get_or-take, get_or-drop, drop-drop, length-take-le, take-nil, take_all}
+use lib.Pointwise.{pointwise}
+use lib.Dec.{eqb}
+use borrow.Author.Tests.{lt-leb, le-leb, eq-eqb, ne_eqb}
+use denote.Bor.{Bor}
 use Rattle.model.specs.Calls.{Call}
 use Rattle.record.specs.Text.{grow, split, same}
 use Rattle.record.specs.Input.{strip, ended, unended, parts, mark, unmarked, begun, records, Unended}
-use Rattle.record.proofs.Parts.{by_lt, is_no, rest_is, same_eq, same_refl, split_found, split_some, split_other}
+use Rattle.record.proofs.Parts.{by_lt, is_no, same_eq, same_is, split_found, split_some, split_other}
 
 -- ---- where a record stands
 
@@ -22,46 +24,27 @@ pub begun_later : (b : Bool) (s : List ℕ) → b ≡ false → s ≡ begun b s
 unfolding begun
 begun_later b s e = simp e
 
-pub begun_mark : (b : Bool) (s : List ℕ) → b ≡ true → take 3 s ≡ mark → drop 3 s ≡ begun b s
-unfolding begun unmarked
-begun_mark b s e q = simp (e, ap (λ (t : List ℕ). same t mark) q ∙ same_refl mark)
-
-pub begun_other : (b : Bool) (s : List ℕ) → b ≡ true → (take 3 s ≡ mark → ⊥) → s ≡ begun b s
-unfolding begun unmarked
-begun_other b s e q = simp (e, is_no (same (take 3 s) mark) (λ p. q (same_eq (take 3 s) mark p)))
-
-pub begun_short : (b : Bool) (s : List ℕ) → b ≡ true → length s < 3 → s ≡ begun b s
-begun_short b s e h = begun_other b s e (λ q. omega (arith, ap length q, length-take 3 s))
-
 pub strip_return : (s : List ℕ) → get_or s (length s - 1) 0 ≡ 13 → take (length s - 1) s ≡ strip s
 unfolding strip
 strip_return s e = simp (eq-eqb (get_or s (length s - 1) 0) 13 e)
 
-pub strip_other : (s : List ℕ) → (get_or s (length s - 1) 0 ≡ 13 → ⊥) → take (length s) s ≡ strip s
+pub strip_other : (s : List ℕ) → (get_or s (length s - 1) 0 ≡ 13 → ⊥) → s ≡ strip s
 unfolding strip
-strip_other s e = simp (ne_eqb (get_or s (length s - 1) 0) 13 e, take-length)
+strip_other s e = simp (ne_eqb (get_or s (length s - 1) 0) 13 e)
 
-pub strip_none : (s : List ℕ) → length s ≡ 0 → take 0 s ≡ strip s
+pub strip_none : (s : List ℕ) → length s ≡ 0 → s ≡ strip s
 unfolding strip
 strip_none [] h = refl
 strip_none (b ∷ s) h = absurd (omega arith)
 
--- the bytes after the mark and before the carriage return
-pub stands : (start : Bool) (s : List ℕ) (from n : ℕ) → from ≤ length s → drop from s ≡ begun start s
-    → n ≤ length (take (length s - from) (drop from s)) → take n (take (length s - from) (drop from s)) ≡ strip (take (length s - from) (drop from s))
-    → (from ≤ from + n) × (from + n ≤ length s) × (leb n 128 ≡ leb (length (strip (begun start s))) 128) × (take (from + n - from) (drop from s) ≡ strip (begun start s)) × (drop from s ≡ begun start s)
-stands start s from n h e l t = (
-  omega arith,
-  omega (arith, ap length (rest_is s from), length-drop from s),
-  ap (λ (k : ℕ). leb k 128) (sym (length-take-le n (drop from s) (omega (arith, ap length (rest_is s from)))) ∙ ap length got),
-  ap (λ (k : ℕ). take k (drop from s)) {x = from + n - from} {y = n} (omega arith) ∙ got,
-  e,
-)
-  where
-    got : take n (drop from s) ≡ strip (begun start s)
-    got = ap (take n) (sym (rest_is s from)) ∙ t ∙ ap strip (rest_is s from ∙ e)
+-- what the library makes of the mark
+pub begun_is : (b : Bool) (s : List ℕ) (o : Option (Bor (List ℕ))) (d r : Bor (List ℕ)) (L : Bor (List ℕ) → Type 0) → b ≡ true → r ≡ unwrap_or o d → d.now ≡ s
+    → MatchOption o (pointwise eqb (take 3 s) mark ≡ false) (λ x. (pointwise eqb (take 3 s) mark ≡ true) × (x.now ≡ drop 3 s) × L x) → r.now ≡ begun b s
+unfolding begun unmarked
+begun_is b s None d r L e q f m = ap (λ (x : Bor (List ℕ)). x.now) q ∙ f ∙ simp (e, sym (same_is (take 3 s) mark) ∙ m)
+begun_is b s (Some x) d r L e q f m = ap (λ (x : Bor (List ℕ)). x.now) q ∙ m.1 ∙ simp (e, sym (same_is (take 3 s) mark) ∙ m.0)
 
--- there is one such place
+-- a record stands at one place of its line
 pub stands_once : (start : Bool) (s : List ℕ) (from to from' to' : ℕ)
     → (from ≤ to) × (to ≤ length s) × (take (to - from) (drop from s) ≡ strip (begun start s)) × (drop from s ≡ begun start s)
     → (from' ≤ to') × (to' ≤ length s) × (take (to' - from') (drop from' s) ≡ strip (begun start s)) × (drop from' s ≡ begun start s) → (from ≡ from') × (to ≡ to')
@@ -72,14 +55,14 @@ stands_once start s from to from' to' f g = (
 
 -- ---- a line that has ended
 
--- what it says, from where its record stands
-pub ended_long : (of : List ℕ → Option Call) (s : List ℕ) (fits : Bool) → fits ≡ leb (length (strip s)) 128 → fits ≡ false → none ≡ ended of s
+-- what it says, by how long its record is
+pub ended_long : (of : List ℕ → Option Call) (s : List ℕ) → 128 < length (strip s) → None ≡ ended of s
 unfolding ended
-ended_long of s fits e f = ap (λ (b : Bool). cond b (of (strip s)) none) (sym f ∙ e)
+ended_long of s h = simp (lt-leb (length (strip s)) 128 h)
 
-pub ended_short : (of : List ℕ → Option Call) (s : List ℕ) (fits : Bool) (t : List ℕ) (c : Option Call) → fits ≡ leb (length (strip s)) 128 → fits ≡ true → t ≡ strip s → c ≡ of t → c ≡ ended of s
+pub ended_short : (of : List ℕ → Option Call) (s t : List ℕ) (c : Option Call) → t ≡ strip s → length t ≤ 128 → c ≡ of t → c ≡ ended of s
 unfolding ended
-ended_short of s fits t c e f g h = h ∙ ap of g ∙ ap (λ (b : Bool). cond b (of (strip s)) none) (sym f ∙ e)
+ended_short of s t c e h q = q ∙ ap of e ∙ sym (ap (λ (b : Bool). cond b (of (strip s)) None) (le-leb (length (strip s)) 128 (omega (arith, h, ap length e))))
 
 parts_cons : (of : List ℕ → Option Call) (p : List ℕ) (ps : List (List ℕ)) → (ps ≡ [] → ⊥) → parts of (p ∷ ps) ≡ ended of p ∷ parts of ps
 unfolding parts
@@ -178,7 +161,7 @@ strip_length : (s : List ℕ) → length s ≤ length (strip s) + 1
 unfolding strip
 strip_length s = strip_by (eqb (get_or s (length s - 1) 0) 13) s
 
-ended_over : (of : List ℕ → Option Call) (s : List ℕ) → 130 ≤ length s → ended of s ≡ none
+ended_over : (of : List ℕ → Option Call) (s : List ℕ) → 130 ≤ length s → ended of s ≡ None
 unfolding ended
 ended_over of s h = simp (lt-leb (length (strip s)) 128 (omega (arith, strip_length s)))
 
@@ -188,18 +171,18 @@ after_first of [] = []
 after_first of (q ∷ []) = []
 after_first of (q ∷ r ∷ ps) = parts of (r ∷ ps)
 
-pub unended_some : (s : List ℕ) → 1 ≤ length s → unended s ≡ none ∷ []
+pub unended_some : (s : List ℕ) → 1 ≤ length s → unended s ≡ None ∷ []
 unfolding unended
 unended_some [] h = absurd (not-suc-le-zero h)
 unended_some (b ∷ s) h = refl
 
-parts_over : (of : List ℕ → Option Call) (p : List ℕ) (ps : List (List ℕ)) → 130 ≤ length p → parts of (glue p ps) ≡ none ∷ after_first of ps
+parts_over : (of : List ℕ → Option Call) (p : List ℕ) (ps : List (List ℕ)) → 130 ≤ length p → parts of (glue p ps) ≡ None ∷ after_first of ps
 unfolding parts glue after_first
 parts_over of p [] h = unended_some p (omega arith)
 parts_over of p (q ∷ []) h = unended_some (p ++ q) (omega (arith, length-append p q))
 parts_over of p (q ∷ r ∷ ps) h = ap (λ (c : Option Call). c ∷ parts of (r ∷ ps)) (ended_over of (p ++ q) (omega (arith, length-append p q)))
 
-later_over : (of : List ℕ → Option Call) (p u : List ℕ) → Unended p → 130 ≤ length p → records of false (p ++ u) ≡ none ∷ after_first of (split 10 u)
+later_over : (of : List ℕ → Option Call) (p u : List ℕ) → Unended p → 130 ≤ length p → records of false (p ++ u) ≡ None ∷ after_first of (split 10 u)
 unfolding records begun
 later_over of p u f h = ap (parts of) (split_glue p u f) ∙ parts_over of p (split 10 u) h
 
@@ -210,14 +193,14 @@ unended_drop : (n : ℕ) (s : List ℕ) → Unended s → Unended (drop n s)
 unended_drop n s f k h q = f (n + k) (omega (arith, length-drop n s)) (sym (get_or-drop n s k 0) ∙ q)
 
 -- the first line of all, too long
-first_over : (of : List ℕ → Option Call) (s u : List ℕ) (t : Bool) → same (take 3 s) mark ≡ t → Unended s → 133 ≤ length s → records of true (s ++ u) ≡ none ∷ after_first of (split 10 u)
+first_over : (of : List ℕ → Option Call) (s u : List ℕ) (t : Bool) → same (take 3 s) mark ≡ t → Unended s → 133 ≤ length s → records of true (s ++ u) ≡ None ∷ after_first of (split 10 u)
 unfolding records begun unmarked
 first_over of s u true e f h =
     simp (take-append-le 3 s u (omega arith), e)
     (ap (records of false) (drop-append-le 3 s u (omega arith)) ∙ later_over of (drop 3 s) u (unended_drop 3 s f) (omega (arith, length-drop 3 s)))
 first_over of s u false e f h = simp (take-append-le 3 s u (omega arith), e) (later_over of s u f (omega arith))
 
-any_over : (of : List ℕ → Option Call) (start : Bool) (s u : List ℕ) → Unended s → 133 ≤ length s → records of start (s ++ u) ≡ none ∷ after_first of (split 10 u)
+any_over : (of : List ℕ → Option Call) (start : Bool) (s u : List ℕ) → Unended s → 133 ≤ length s → records of start (s ++ u) ≡ None ∷ after_first of (split 10 u)
 any_over of true s u f h = first_over of s u (same (take 3 s) mark) refl f h
 any_over of false s u f h = later_over of s u f (omega arith)
 

@@ -1,8 +1,7 @@
 -- What a record says: document 01, "Records of the command program". Definitions only, for either program: they differ in the word that makes a tree and in
 -- the number of axes.
-use Rattle.std.specs.Prelude.{ℕ, zero, suc, ◌+◌, ◌*◌, Bool, true, false, cond, get_or, take, drop, Float}
+use Rattle.std.specs.Prelude.{ℕ, zero, suc, ◌+◌, ◌*◌, Bool, true, false, cond, get_or, take, drop, Float, Option, None, Some, option_map, option_and_then}
 use mathlib.Core.List.{List, [], ◌∷◌, zip_with}
-use Rattle.std.proofs.Math.Option.{Option, none, some}
 use Rattle.std.specs.Float.{nan}
 use Rattle.model.specs.Calls.{Call, Create, Insert, Delete, Clear, Ask, Contains, Len, Radius, Box, Nearest}
 use Rattle.record.specs.Text.{split, same, has}
@@ -41,19 +40,19 @@ word_len = 108 ∷ 101 ∷ 110 ∷ []
 abbrev pub word_clear : List ℕ
 word_clear = 99 ∷ 108 ∷ 101 ∷ 97 ∷ 114 ∷ []
 
--- the word of a first field; `made` is the one that makes a tree
-unfoldable pub word_of : (made : List ℕ) → List ℕ → Word
+-- the word of a first field, if it is one; `made` is the one that makes a tree
+unfoldable pub word_of : (made : List ℕ) → List ℕ → Option Word
 unfolding same
 word_of made w =
-    cond (same w word_insert) Word.Insert
-    (cond (same w word_delete) Word.Delete
-    (cond (same w word_contains) Word.Contains
-    (cond (same w word_range) Word.Range
-    (cond (same w word_knn) Word.Knn
-    (cond (same w word_box) Word.Box
-    (cond (same w word_len) Word.Len
-    (cond (same w word_clear) Word.Clear
-    (cond (same w made) Word.Create Word.Bad))))))))
+    cond (same w word_insert) (Some Word.Insert)
+    (cond (same w word_delete) (Some Word.Delete)
+    (cond (same w word_contains) (Some Word.Contains)
+    (cond (same w word_range) (Some Word.Range)
+    (cond (same w word_knn) (Some Word.Knn)
+    (cond (same w word_box) (Some Word.Box)
+    (cond (same w word_len) (Some Word.Len)
+    (cond (same w word_clear) (Some Word.Clear)
+    (cond (same w made) (Some Word.Create) None))))))))
 
 -- ---- numbers
 -- "quad (x,y,width,height,capacity), insert and delete and contains (x,y,payload), range (x,y,radius), knn (x,y,k), box (x,y,width,height), len, clear. The
@@ -68,7 +67,6 @@ floats_after axes Word.Knn = axes
 floats_after axes Word.Box = 2 * axes
 floats_after axes Word.Len = 0
 floats_after axes Word.Clear = 0
-floats_after axes Word.Bad = 0
 
 unfoldable pub whole_after : Word → Bool
 whole_after Word.Create = true
@@ -80,7 +78,6 @@ whole_after Word.Knn = true
 whole_after Word.Box = false
 whole_after Word.Len = false
 whole_after Word.Clear = false
-whole_after Word.Bad = false
 
 pub record Numbers : Type 0 where
   pub floats : List Float
@@ -89,36 +86,35 @@ pub record Numbers : Type 0 where
 -- exactly so many fields that are floats and, where one is due, one that is a whole number
 unfoldable pub numbers_of : ℕ → Bool → List (List ℕ) → Option Numbers
 unfolding number_of whole_of
-numbers_of zero false [] = some (record { floats = []; whole = 0 })
-numbers_of zero false (f ∷ fs) = none
-numbers_of zero true [] = none
-numbers_of zero true (f ∷ []) = elim (whole_of f) [ none ↦ none | some n ↦ some (record { floats = []; whole = n }) ]
-numbers_of zero true (f ∷ g ∷ fs) = none
-numbers_of (suc n) w [] = none
+numbers_of zero false [] = Some (record { floats = []; whole = 0 })
+numbers_of zero false (f ∷ fs) = None
+numbers_of zero true [] = None
+numbers_of zero true (f ∷ []) = elim (whole_of f) [ None ↦ None | Some n ↦ Some (record { floats = []; whole = n }) ]
+numbers_of zero true (f ∷ g ∷ fs) = None
+numbers_of (suc n) w [] = None
 numbers_of (suc n) w (f ∷ fs) =
-    elim (number_of f) [ none ↦ none | some x ↦ elim (numbers_of n w fs) [ none ↦ none | some m ↦ some (record { floats = x ∷ m.floats; whole = m.whole }) ] ]
+    elim (number_of f) [ None ↦ None | Some x ↦ elim (numbers_of n w fs) [ None ↦ None | Some m ↦ Some (record { floats = x ∷ m.floats; whole = m.whole }) ] ]
 
 -- ---- commands
 -- the call of a word and its numbers. A search is lent places for as many points as a tree can hold
-unfoldable pub call_of : (axes : ℕ) → Word → Numbers → Option Call
-call_of axes Word.Create m = some (Create (zip_with (λ c e. record { corner = c; extent = e }) (take axes m.floats) (drop axes m.floats)) m.whole)
-call_of axes Word.Insert m = some (Insert (record { at = m.floats; payload = m.whole }))
-call_of axes Word.Delete m = some (Delete (record { at = m.floats; payload = m.whole }))
-call_of axes Word.Contains m = some (Ask (Contains (record { at = m.floats; payload = m.whole })))
-call_of axes Word.Range m = some (Ask (Radius (take axes m.floats) (get_or m.floats axes nan) 512))
-call_of axes Word.Knn m = some (Ask (Nearest m.floats m.whole 512))
-call_of axes Word.Box m = some (Ask (Box (zip_with (λ c e. record { corner = c; extent = e }) (take axes m.floats) (drop axes m.floats)) 512))
-call_of axes Word.Len m = some (Ask Len)
-call_of axes Word.Clear m = some Clear
-call_of axes Word.Bad m = none
+unfoldable pub call_of : (axes : ℕ) → Word → Numbers → Call
+call_of axes Word.Create m = Create (zip_with (λ c e. record { corner = c; extent = e }) (take axes m.floats) (drop axes m.floats)) m.whole
+call_of axes Word.Insert m = Insert (record { at = m.floats; payload = m.whole })
+call_of axes Word.Delete m = Delete (record { at = m.floats; payload = m.whole })
+call_of axes Word.Contains m = Ask (Contains (record { at = m.floats; payload = m.whole }))
+call_of axes Word.Range m = Ask (Radius (take axes m.floats) (get_or m.floats axes nan) 512)
+call_of axes Word.Knn m = Ask (Nearest m.floats m.whole 512)
+call_of axes Word.Box m = Ask (Box (zip_with (λ c e. record { corner = c; extent = e }) (take axes m.floats) (drop axes m.floats)) 512)
+call_of axes Word.Len m = Ask Len
+call_of axes Word.Clear m = Clear
 
 unfoldable pub fields_call : (made : List ℕ) (axes : ℕ) → List (List ℕ) → Option Call
 unfolding word_of numbers_of call_of
-fields_call made axes [] = none
-fields_call made axes (w ∷ fs) = elim (numbers_of (floats_after axes (word_of made w)) (whole_after (word_of made w)) fs) [ none ↦ none | some m ↦ call_of axes (word_of made w) m ]
+fields_call made axes [] = None
+fields_call made axes (w ∷ fs) = option_and_then (λ v. option_map (call_of axes v) (numbers_of (floats_after axes v) (whole_after v) fs)) (word_of made w)
 
 -- "RFC 4180 fields, comma-separated", "Each record becomes one command that carries its numbers.", "A double quote is answered 9.": the call of a record, given
 -- without its line end, or none where it is not understood
 unfoldable pub understood : (made : List ℕ) (axes : ℕ) → List ℕ → Option Call
 unfolding fields_call
-understood made axes s = cond (has 34 s) none (fields_call made axes (split 44 s))
+understood made axes s = cond (has 34 s) None (fields_call made axes (split 44 s))

@@ -1,6 +1,5 @@
 -- The records of an input: document 01, "Records of the command program". Definitions only, for either program: `of` says what one record says.
-use Rattle.std.specs.Prelude.{ℕ, ◌-◌, ◌<◌, ◌≡◌, Bool, true, false, cond, List, [], ◌∷◌, length, get_or, take, drop, eqb, leb}
-use Rattle.std.proofs.Math.Option.{Option, none}
+use Rattle.std.specs.Prelude.{ℕ, ◌-◌, ◌<◌, ◌≡◌, Bool, true, false, cond, List, [], ◌∷◌, length, get_or, take, drop, eqb, leb, Option, None}
 use Rattle.model.specs.Calls.{Call}
 use Rattle.record.specs.Text.{split, same}
 
@@ -11,12 +10,12 @@ strip s = cond (eqb (get_or s (length s - 1) 0) 13) (take (length s - 1) s) s
 -- "At most 128 bytes stand before the line end; a longer record is answered 9 once and skipped."
 unfoldable pub ended : (List ℕ → Option Call) → List ℕ → Option Call
 unfolding strip
-ended of s = cond (leb (length (strip s)) 128) (of (strip s)) none
+ended of s = cond (leb (length (strip s)) 128) (of (strip s)) None
 
 -- "a last record with no line end is answered 9. Nothing after the last line end, or no input at all, is no record."
 unfoldable pub unended : List ℕ → List (Option Call)
 unended [] = []
-unended (b ∷ s) = none ∷ []
+unended (b ∷ s) = None ∷ []
 
 -- what the parts between line feeds say: all but the last have their line end
 unfoldable pub parts : (List ℕ → Option Call) → List (List ℕ) → List (Option Call)

@@ -1,6 +1,5 @@
 -- The numbers of a record, read and printed: document 01, "Records of the command program". Definitions only.
-use Rattle.std.specs.Prelude.{ℕ, zero, suc, ◌+◌, ◌-◌, ◌*◌, ◌/◌, ◌%◌, Bool, true, false, not, cond, ◌&&◌, List, [], ◌∷◌, ◌++◌, length, eqb, ltb, leb, Float}
-use Rattle.std.proofs.Math.Option.{Option, none, some}
+use Rattle.std.specs.Prelude.{ℕ, zero, suc, ◌+◌, ◌-◌, ◌*◌, ◌/◌, ◌%◌, Bool, true, false, not, cond, ◌&&◌, List, [], ◌∷◌, ◌++◌, length, eqb, ltb, leb, Float, Option, None, Some}
 use Rattle.std.specs.Float.{binary64}
 use Rattle.std.specs.Float.Ieee.{of_bits, to_bits}
 
@@ -26,7 +25,7 @@ value base n (b ∷ s) = value base (base * n + digit b) s
 -- "Floats are 16 upper-case hex digits of their binary64 bits."
 unfoldable pub number_of : List ℕ → Option Float
 unfolding digits value
-number_of s = cond (eqb (length s) 16 && digits 16 s) (some (of_bits binary64 (value 16 0 s))) none
+number_of s = cond (eqb (length s) 16 && digits 16 s) (Some (of_bits binary64 (value 16 0 s))) None
 
 -- "no leading zero except 0 itself": one digit, or more of which the first is not 0
 unfoldable pub led : List ℕ → Bool
@@ -37,7 +36,7 @@ led (b ∷ c ∷ s) = not (eqb b 48)
 -- "Whole numbers are decimal, no leading zero except 0 itself, at most 4294967295."
 unfoldable pub whole_of : List ℕ → Option ℕ
 unfolding digits value led
-whole_of s = cond (led s && (digits 10 s && leb (value 10 0 s) 4294967295)) (some (value 10 0 s)) none
+whole_of s = cond (led s && (digits 10 s && leb (value 10 0 s) 4294967295)) (Some (value 10 0 s)) None
 
 -- ---- printed
 -- the character of a digit below 16, in upper case

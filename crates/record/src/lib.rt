@@ -3,8 +3,8 @@
 
 pub mod numbers;
 
-// The words with which a record begins, or that it begins with none of them.
-#[derive(Clone, Copy)]
+// The words with which a record begins.
+#[derive(Clone, Copy, PartialEq, Eq, Debug)]
 pub enum Word {
     Create,
     Insert,
@@ -15,5 +15,4 @@ pub enum Word {
     Box,
     Len,
     Clear,
-    Bad,
 }

@@ -2,103 +2,92 @@
 // A line that is not understood is answered with a question mark.
 #![tactic(auto)]
 
-ghost use Rattle.std.specs.Prelude.{◌+◌, ◌≤◌, ◌<◌, true, ◌≡◌, length, set};
+ghost use Rattle.std.specs.Prelude.{◌+◌, ◌≤◌, ◌<◌, true, false, ◌≡◌, set, take, MatchOption};
 
 use std::io::{Read, Write};
 
-// How much of a line is read, whether it is too long for any question, and whether there is more input.
-#[derive(Clone, Copy)]
-struct Line {
+// What is read of a line, and whether more of it was read than there is room for. The longest question is `meets3` with its twelve numbers: 210 bytes.
+// Kept: a buffer of fixed size with its length, since the programs take no memory, and a flag, since no value belongs to a line that is too long.
+#[derive(Drop)]
+struct Buffer {
+    bytes: [u8; 256],
     len: usize,
     long: bool,
-    more: bool,
+    ghost fits: { len ≤ 256 },
+}
+
+impl Buffer {
+    fn new() -> Buffer
+        ensures { (result.len ≡ 0) × (result.long ≡ false) }
+    {
+        Buffer {
+            bytes: [0; 256],
+            len: 0,
+            long: false,
+        }
+    }
+
+    // A byte joins the line where there is room, and otherwise the line is too long.
+    fn push(&mut self, b: u8)
+        ensures joined { self.old.len < 256 → (self.new.bytes ≡ set self.old.bytes self.old.len b) × (self.new.len ≡ self.old.len + 1) × (self.new.long ≡ self.old.long) }
+        ensures full { 256 ≤ self.old.len → (self.new.bytes ≡ self.old.bytes) × (self.new.len ≡ self.old.len) × (self.new.long ≡ true) }
+    {
+        if self.len < self.bytes.len() {
+            self.bytes[self.len] = b;
+            self.len += 1;
+        } else {
+            self.long = true;
+        }
+    }
+
+    // The line, if it is not too long for any question.
+    fn line(&self) -> Option<&[u8]>
+        ensures { MatchOption result (self.now.long ≡ true) (λ s. (self.now.long ≡ false) × (s.now ≡ take self.now.len self.now.bytes)) }
+    {
+        if self.long {
+            None
+        } else {
+            Some(&self.bytes[..self.len])
+        }
+    }
+
+    fn clear(&mut self)
+        ensures { (self.new.len ≡ 0) × (self.new.long ≡ false) }
+    {
+        self.len = 0;
+        self.long = false;
+    }
 }
 
 // An answer that cannot be written is lost, and the next line is read.
 fn reply<O: Write>(output: &mut O, line: &[u8]) {
     let mut out = [0u8; 128];
     let n = geometry_answers::show(geometry_questions::ask(line), &mut out);
-    let _written = output.write_all(&out[0..n]).is_ok();
-}
-
-// A byte joins the line where there is room, and otherwise the line is too long.
-fn join(line: &mut [u8], len: usize, long: bool, b: u8) -> Line
-    ensures line_after { len < length line.old → (line.new ≡ set line.old len b) × (result.len ≡ len + 1) × (result.long ≡ long) }
-    ensures full { length line.old ≤ len → (line.new ≡ line.old) × (result.len ≡ len) × (result.long ≡ true) }
-    ensures on { result.more ≡ true }
-{
-    if len < line.len() {
-        line[len] = b;
-        return Line {
-            len: len + 1,
-            long,
-            more: true,
-        };
-    }
-    Line {
-        len,
-        long: true,
-        more: true,
-    }
+    let _written = output.write_all(&out[..n]).is_ok();
 }
 
 // Reads one byte, where there is one more that can be read.
-fn read_one<I: Read>(input: &mut I, byte: &mut [u8; 1]) -> bool {
-    match input.read(byte) {
-        Ok(got) => got == 1,
-        Err(_) => false,
-    }
-}
-
-// One byte of input: it ends a line, which is answered, or joins it.
-fn step<I: Read, O: Write>(
-    input: &mut I,
-    output: &mut O,
-    line: &mut [u8],
-    len: usize,
-    long: bool,
-) -> Line
-    requires { len ≤ length line.old }
-    ensures { result.len ≤ length line.new }
-{
+fn read_one<I: Read>(input: &mut I) -> Option<u8> {
     let mut byte = [0u8; 1];
-    if !read_one(input, &mut byte) {
-        return Line {
-            len,
-            long,
-            more: false,
-        };
+    match input.read(&mut byte) {
+        Ok(1) => Some(byte[0]),
+        _ => None,
     }
-    let b = byte[0];
-    if b == b'\n' {
-        if long {
-            reply(output, b"");
-        } else {
-            reply(output, &line[0..len]);
-        }
-        return Line {
-            len: 0,
-            long: false,
-            more: true,
-        };
-    }
-    join(line, len, long, b)
 }
 
-// The longest question is `meets3` with its twelve numbers: 210 bytes.
 fn main(rt: HostRuntime) {
     let mut input = rt.stdin();
     let mut output = rt.stdout();
-    let mut line = [0u8; 256];
-    let mut len: usize = 0;
-    let mut long = false;
-    let mut more = true;
-    let mut turns = u64::MAX;
-    while turns > 0 && more {
-        let next = step(&mut input, &mut output, &mut line, len, long);
-        len = next.len;
-        long = next.long;
-        more = next.more;
-        turns -= 1;
+    let mut buffer = Buffer::new();
+    for _ in 0..u64::MAX {
+        let Some(b) = read_one(&mut input) else {
+            break;
+        };
+        if b == b'\n' {
+            reply(&mut output, buffer.line().unwrap_or(b""));
+            buffer.clear();
+        } else {
+            buffer.push(b);
+        }
     }
 }

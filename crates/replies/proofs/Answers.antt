@@ -4,7 +4,7 @@ use mathlib.Core.Path.{◌≡◌, refl, sym, ap, ◌∙◌, subst}
 use mathlib.Core.Logic.{◌≢◌}
 use mathlib.Core.Bool.{Bool, true, false, ◌||◌, or-false, or-true}
 use mathlib.Core.List.{List, [], ◌++◌}
-use mathlib.Core.Option.{Option, none, some}
+use Rattle.std.specs.Prelude.{Option, None, Some}
 use native.Mathlib.Nat.{le_trans, mul-le-mul_left}
 use native.Mathlib.Omega.{arith}
 use lib.Dec.{T, eqb}
@@ -102,7 +102,7 @@ unfolding told
 len_figured o = refl
 
 -- the points that a search found
-abbrev Pointed : Query → Type 0
+abbrev pub Pointed : Query → Type 0
 Pointed q = (o : Outcome) → told q o ≡ field (decimal o.figure) ++ points o.points
 
 pub radius_pointed : (c : List Float) (r : Float) (n : ℕ) → Pointed (Radius c r n)
@@ -150,12 +150,12 @@ module _ (k : Kind) (held : Bool) (s : Pieces) (out : List ℕ) (at : ℕ) (out'
   answers_as c d held' s' e w = subst (λ (b : Option Call). Answers k b held s held' s' out at out' r) (sym e) w
 
   -- 9
-  pub answers_bad : Wrote out at (decimal 9 ++ crlf) out' r → Answers k none held s held s out at out' r
+  pub answers_bad : Wrote out at (decimal 9 ++ crlf) out' r → Answers k None held s held s out at out' r
   unfolding Answers answer number
   answers_bad w a y = (w, y, λ e. refl)
 
   -- 10
-  pub answers_none : (c : Call) → makes c ≡ false → held ≡ false → Wrote out at (decimal 10 ++ crlf) out' r → Answers k (some c) held s held s out at out' r
+  pub answers_none : (c : Call) → makes c ≡ false → held ≡ false → Wrote out at (decimal 10 ++ crlf) out' r → Answers k (Some c) held s held s out at out' r
   unfolding Answers answer
   answers_none c f e w a y =
       let h : heard k a c ≡ refuse no_tree a = heard_none k a c (sym y.0 ∙ e) f in
@@ -169,7 +169,7 @@ module _ (k : Kind) (held : Bool) (s : Pieces) (out : List ℕ) (at : ℕ) (out'
   -- a tree that is held, and what follows from it
   only_tree : (c : Call) (held' : Bool) (s' : Pieces) → held ≡ true
       → ((a : Plan) → Says k s (tree a) → Ends c held' s' (step k (tree a) c))
-      → Answers k (some c) held s held' s' out at out' r
+      → Answers k (Some c) held s held' s' out at out' r
   unfolding Answers answer held?
   only_tree c held' s' e go misfit y = absurd (subst T (sym e ∙ y.0) tt)
   only_tree c held' s' e go broken y = absurd (subst T (sym e ∙ y.0) tt)
@@ -180,7 +180,7 @@ module _ (k : Kind) (held : Bool) (s : Pieces) (out : List ℕ) (at : ℕ) (out'
 
   -- a change: its reply alone
   pub answers_change : (c : Call) (s' : Pieces) (q : ℕ) → Bare c → Stays k c → held ≡ true → DoesHeld k c s s' q 0 → Wrote out at (decimal q ++ crlf) out' r
-      → Answers k (some c) held s held s' out at out' r
+      → Answers k (Some c) held s held s' out at out' r
   unfolding DoesHeld
   answers_change c s' q f st e d w = only_tree c held s' e (λ a y.
       let g = d a y in
@@ -189,7 +189,7 @@ module _ (k : Kind) (held : Bool) (s : Pieces) (out : List ℕ) (at : ℕ) (out'
 
   -- a yes or no, or a count
   pub answers_figure : (q : Query) (n : ℕ) → Figured q → held ≡ true → AsksHeld k q s 0 n
-      → Wrote out at (decimal 0 ++ field (decimal n) ++ crlf) out' r → Answers k (some (Ask q)) held s held s out at out' r
+      → Wrote out at (decimal 0 ++ field (decimal n) ++ crlf) out' r → Answers k (Some (Ask q)) held s held s out at out' r
   unfolding AsksHeld
   answers_figure q n f e d w = only_tree (Ask q) held s e (λ a y.
       let g = d a y in
@@ -201,7 +201,7 @@ module _ (k : Kind) (held : Bool) (s : Pieces) (out : List ℕ) (at : ℕ) (out'
   -- a search: the points that it handed over
   pub answers_told : (q : Query) (cs ms coords marks : List ℕ) (reply n : ℕ) → Pointed q → ((a : Plan) → All (ShapedPoint k.axes) (trees.held 32 a.root) → Asked k.axes 512 (step k (tree a) (Ask q)))
       → ((i : ℕ) → get_or s.points i 0 < 256) → 512 ≤ room_for k.axes coords marks → at + longest k.axes ≤ length out
-      → held ≡ true → SearchesHeld k q s cs ms coords marks reply n → PutsTold k.axes coords marks reply n out at out' r → Answers k (some (Ask q)) held s held s out at out' r
+      → held ≡ true → SearchesHeld k q s cs ms coords marks reply n → PutsTold k.axes coords marks reply n out at out' r → Answers k (Some (Ask q)) held s held s out at out' r
   unfolding SearchesHeld
   answers_told q cs ms coords marks reply n f asked low room fit e d w = only_tree (Ask q) held s e (λ a y.
       let o = step k (tree a) (Ask q) in
@@ -212,7 +212,7 @@ module _ (k : Kind) (held : Bool) (s : Pieces) (out : List ℕ) (at : ℕ) (out'
 
   -- a creation: its reply alone
   pub answers_create : (b : List Side) (cap : ℕ) (s' : Pieces) (q : ℕ) (held' : Bool) → Creates k b cap s s' q → held' ≡ held || eqb q 0 → Wrote out at (decimal q ++ crlf) out' r
-      → Answers k (some (Create b cap)) held s held' s' out at out' r
+      → Answers k (Some (Create b cap)) held s held' s' out at out' r
   unfolding Answers answer Creates
   answers_create b cap s' q held' d eh w a y =
       let g = d a y.1 in

@@ -3,11 +3,11 @@ use Prim.Native.Nat.{ℕ, ◌+◌, ◌-◌, ◌≤◌, ◌<◌}
 use mathlib.Core.Path.{◌≡◌, refl, sym, ap, ◌∙◌, subst}
 use mathlib.Core.Bool.{Bool, false, true}
 use mathlib.Core.List.{List, [], ◌∷◌, ◌++◌, append-nil}
-use mathlib.Core.Option.{Option, none}
-use native.Mathlib.Nat.{add-zero, sub-zero}
+use Rattle.std.specs.Prelude.{Option, None}
+use native.Mathlib.Nat.{add-zero}
 use native.Mathlib.Omega.{arith}
 use lib.Dec.{leb}
-use lib.ListN.{length, get_or, take, drop, length-drop, drop_of_length-le}
+use lib.ListN.{length, get_or, take, drop, length-drop}
 use borrow.Author.Tests.{le-leb, leb-false, leb-true, lt-leb}
 use Rattle.model.specs.Calls.{Call, Kind, State, number}
 use Rattle.trees.specs.Pieces.{Pieces}
@@ -38,7 +38,7 @@ module _ (k : Kind) (of : List ℕ → Option Call) where
 
   -- the line before a line feed was answered
   pub feeds_line : (a : State) (start held held' : Bool) (text : List ℕ) (e : ℕ) (s s' : Pieces) (c : Option Call) (out : List ℕ) (at : ℕ) (out' : List ℕ) (r : ℕ)
-      → e < length text → ((i : ℕ) → i < e → get_or text i 0 ≡ 10 → ⊥) → (e < length text → get_or text e 0 ≡ 10) → c ≡ ended of (begun start (take (e - 0) text))
+      → e < length text → ((i : ℕ) → i < e → get_or text i 0 ≡ 10 → ⊥) → (e < length text → get_or text e 0 ≡ 10) → c ≡ ended of (begun start (take e text))
       → Answers k c held s held' s' out at out' r → Keeps k held s a → Feeds k of a start text s held' s' false (drop (e + 1) text) out at out' r
   unfolding Answers changed
   feeds_line a start held held' text e s s' c out at out' r h f g ec w y =
@@ -47,7 +47,7 @@ module _ (k : Kind) (of : List ℕ → Option Call) where
         said = c ∷ [];
         state = (answer k a c).state;
         printed = (answer k a c).line;
-        fed = fed_one k of a start false text (drop (e + 1) text) c (λ u. records_line of start text u e h f (g h) ∙ ap (λ (b : Option Call). b ∷ records of false (drop (e + 1) text ++ u)) (sym (ec ∙ ap (λ (j : ℕ). ended of (begun start (take j text))) (sub-zero e))));
+        fed = fed_one k of a start false text (drop (e + 1) text) c (λ u. records_line of start text u e h f (g h) ∙ ap (λ (b : Option Call). b ∷ records of false (drop (e + 1) text ++ u)) (sym ec));
         unchanged = λ n. d.2 (neither (answer k a c).changes false n).0;
         wrote = d.0;
         keeps = d.1;
@@ -69,21 +69,20 @@ module _ (k : Kind) (of : List ℕ → Option Call) where
       }
 
 -- ---- the end
-nine : (k : Kind) (a : State) → lines k a (none ∷ []) ≡ decimal 9 ++ crlf
+nine : (k : Kind) (a : State) → lines k a (None ∷ []) ≡ decimal 9 ++ crlf
 unfolding lines answer number
 nine k a = append-nil (decimal 9 ++ crlf)
 
-pub finished_some : (start : Bool) (text : List ℕ) (n : ℕ) (out out' : List ℕ) (r : ℕ) → n < length text → drop n text ≡ begun start text → Puts 12 out 0 (decimal 9 ++ crlf) out' r
-    → (k : Kind) (a : State) → Puts 12 out 0 (lines k a (unended (begun start text))) out' r
-finished_some start text n out out' r h e w k a =
-    let u : unended (begun start text) ≡ none ∷ [] = ap unended (sym e) ∙ unended_some (drop n text) (omega (arith, length-drop n text)) in
-    subst (λ (l : List ℕ). Puts 12 out 0 l out' r) (sym (ap (lines k a) u ∙ nine k a)) w
+pub finished_some : (start : Bool) (text left : List ℕ) (out out' : List ℕ) (at r : ℕ) → left ≡ begun start text → 0 < length left → Puts 12 out at (decimal 9 ++ crlf) out' r
+    → (k : Kind) (a : State) → Puts 12 out at (lines k a (unended (begun start text))) out' r
+finished_some start text left out out' at r e h w k a =
+    let u : unended (begun start text) ≡ None ∷ [] = ap unended (sym e) ∙ unended_some left h in
+    subst (λ (l : List ℕ). Puts 12 out at l out' r) (sym (ap (lines k a) u ∙ nine k a)) w
 
-pub finished_none : (start : Bool) (text : List ℕ) (n : ℕ) (out : List ℕ) → length text ≤ n → drop n text ≡ begun start text → (k : Kind) (a : State) → Puts 12 out 0 (lines k a (unended (begun start text))) out 0
+pub finished_none : (start : Bool) (text left : List ℕ) (out : List ℕ) (at : ℕ) → left ≡ begun start text → length left ≤ 0 → (k : Kind) (a : State) → Puts 12 out at (lines k a (unended (begun start text))) out at
 unfolding lines unended
-finished_none start text n out h e k a =
-    let u : begun start text ≡ [] = sym e ∙ drop_of_length-le text h in
-    subst (λ (l : List ℕ). Puts 12 out 0 (lines k a (unended l)) out 0) (sym u) (record { wrote = λ l. unwritten out 0; none = λ l. unwritten out 0 })
+finished_none start text [] out at e h k a = subst (λ (l : List ℕ). Puts 12 out at (lines k a (unended l)) out at) e (record { wrote = λ l. unwritten out at; none = λ l. unwritten out at })
+finished_none start text (b ∷ left) out at e h k a = absurd (omega arith)
 
 -- ---- lines one after the other
 -- what is read of a rest lies inside the text

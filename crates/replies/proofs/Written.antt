@@ -1,17 +1,13 @@
 -- Laws of bytes that are written one after the other, and of digits. Assumes nothing.
-use Prim.Native.Nat.{ℕ, ◌+◌, ◌*◌, ◌≤◌, ◌<◌}
+use Prim.Native.Nat.{ℕ, zero, suc, ◌+◌, ◌*◌, ◌^◌, ◌≤◌, ◌<◌, max}
 use mathlib.Core.Path.{◌≡◌, refl, sym, ap, ◌∙◌, subst}
-use mathlib.Core.Bool.{Bool, true, false}
 use mathlib.Core.List.{List, [], ◌∷◌, ◌++◌, append_assoc, append-nil}
 use native.Mathlib.Nat.{add-zero}
 use native.Mathlib.Omega.{arith}
 use lib.ListN.{length, length-append}
 use lib.Seq.{sets}
-use lib.Dec.{ltb}
-use mir.Val.{bool_byte}
 use borrow.Author.Tests.{lt-ltb, le-ltb}
 use Rattle.record.specs.Numbers.{glyph, spelt, places, decimal}
-use Rattle.pool.proofs.Lists.{by_lt}
 use Rattle.trees.proofs.Walks.{sets_append}
 use Rattle.replies.specs.Lines.{crlf}
 use Rattle.replies.specs.Programs.{Puts, Wrote}
@@ -32,16 +28,6 @@ puts_none room o at bytes h = record { wrote = λ l. absurd (omega arith); none 
 
 pub puts_some : (room : ℕ) (o : List ℕ) (at : ℕ) (bytes o' : List ℕ) (r : ℕ) → at + room ≤ length o → Wrote o at bytes o' r → Puts room o at bytes o' r
 puts_some room o at bytes o' r h w = record { wrote = λ l. w; none = λ l. absurd (omega arith) }
-
--- ---- digits
-pub letter_small : (t : Bool) → bool_byte t ≤ 1
-letter_small true = omega arith
-letter_small false = omega arith
-
--- letters stand seven places after the digits
-pub glyph_is : (d : ℕ) → 48 + d + 7 * bool_byte (ltb 9 d) ≡ glyph d
-unfolding glyph
-glyph_is d = by_lt d 10 (λ h. simp (lt-ltb d 10 h, le-ltb 9 d (omega arith)) (omega arith)) (λ h. simp (le-ltb d 10 h, lt-ltb 9 d (omega arith)) (omega arith))
 
 -- ---- how many digits
 
@@ -84,6 +70,20 @@ places_9 n h l = simp (le-ltb n 10 (omega arith), le-ltb n 100 (omega arith), le
 pub places_10 : (n : ℕ) → 1000000000 ≤ n → 10 ≡ places n
 unfolding places
 places_10 n h = simp (le-ltb n 10 (omega arith), le-ltb n 100 (omega arith), le-ltb n 1000 (omega arith), le-ltb n 10000 (omega arith), le-ltb n 100000 (omega arith), le-ltb n 1000000 (omega arith), le-ltb n 10000000 (omega arith), le-ltb n 100000000 (omega arith), le-ltb n 1000000000 (omega arith))
+
+-- by the greatest power of ten in it
+pub places_is : (n m k : ℕ) → m ≡ max n 1 → 10 ^ k ≤ m → m < 10 * 10 ^ k → k < 10 → k + 1 ≡ places n
+places_is n m zero e l h f = let b : m < 10 = h in places_1 n (omega arith)
+places_is n m (suc zero) e l h f = let a : 10 ≤ m = l in let b : m < 100 = h in places_2 n (omega arith) (omega arith)
+places_is n m (suc (suc zero)) e l h f = let a : 100 ≤ m = l in let b : m < 1000 = h in places_3 n (omega arith) (omega arith)
+places_is n m (suc (suc (suc zero))) e l h f = let a : 1000 ≤ m = l in let b : m < 10000 = h in places_4 n (omega arith) (omega arith)
+places_is n m (suc (suc (suc (suc zero)))) e l h f = let a : 10000 ≤ m = l in let b : m < 100000 = h in places_5 n (omega arith) (omega arith)
+places_is n m (suc (suc (suc (suc (suc zero))))) e l h f = let a : 100000 ≤ m = l in let b : m < 1000000 = h in places_6 n (omega arith) (omega arith)
+places_is n m (suc (suc (suc (suc (suc (suc zero)))))) e l h f = let a : 1000000 ≤ m = l in let b : m < 10000000 = h in places_7 n (omega arith) (omega arith)
+places_is n m (suc (suc (suc (suc (suc (suc (suc zero))))))) e l h f = let a : 10000000 ≤ m = l in let b : m < 100000000 = h in places_8 n (omega arith) (omega arith)
+places_is n m (suc (suc (suc (suc (suc (suc (suc (suc zero)))))))) e l h f = let a : 100000000 ≤ m = l in let b : m < 1000000000 = h in places_9 n (omega arith) (omega arith)
+places_is n m (suc (suc (suc (suc (suc (suc (suc (suc (suc zero))))))))) e l h f = let a : 1000000000 ≤ m = l in places_10 n (omega arith)
+places_is n m (suc (suc (suc (suc (suc (suc (suc (suc (suc (suc k)))))))))) e l h f = absurd (omega arith)
 
 pub decimal_written : (o o' : List ℕ) (at r n k : ℕ) → k ≡ places n → Wrote o at (spelt 10 k n) o' r → Wrote o at (decimal n) o' r
 unfolding decimal

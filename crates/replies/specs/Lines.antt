@@ -1,7 +1,6 @@
 -- The lines of a command program: document 01, "Records of the command program" and "Reply numbers". Definitions only, for either program.
-use Rattle.std.specs.Prelude.{ℕ, Bool, true, false, cond, ◌||◌, eqb}
+use Rattle.std.specs.Prelude.{ℕ, Bool, true, false, cond, ◌||◌, eqb, Option, None, Some}
 use mathlib.Core.List.{List, [], ◌∷◌, ◌++◌, map, flatten}
-use Rattle.std.proofs.Math.Option.{Option, none, some}
 use Rattle.model.specs.Trees.{Point}
 use Rattle.model.specs.Calls.{no_tree, not_understood, number, Kind, State, misfit, broken, tree, Query, Contains, Len, IsEmpty, Radius, Box, Nearest, Call, Create, Insert, Bulk, Delete, Clear, Ask, Outcome, refuse, step}
 use Rattle.record.specs.Numbers.{decimal, hex}
@@ -87,8 +86,8 @@ pub record Answer : Type 0 where
 
 unfoldable pub answer : Kind → State → Option Call → Answer
 unfolding heard line changes decimal number
-answer k s none = record { line = decimal (number not_understood) ++ crlf; state = s; changes = false }
-answer k s (some c) = let o = heard k s c in record { line = line c o; state = o.state; changes = changes c o }
+answer k s None = record { line = decimal (number not_understood) ++ crlf; state = s; changes = false }
+answer k s (Some c) = let o = heard k s c in record { line = line c o; state = o.state; changes = changes c o }
 
 -- the lines of many records, and the tree after them
 unfoldable pub lines : Kind → State → List (Option Call) → List ℕ

@@ -1,11 +1,15 @@
 -- What the code of a command program does: bytes written to a lent slice, the tree that its pieces hold, and how far it is in its input. Definitions only.
-use Rattle.std.specs.Prelude.{◌≡◌, Bool, false, List, [], ◌++◌, ℕ, ◌+◌, ◌*◌, ◌≤◌, ◌<◌, length}
-use Rattle.std.proofs.Math.Option.{Option}
+use Rattle.std.specs.Prelude.{◌≡◌, Bool, false, List, [], ◌++◌, ℕ, ◌+◌, ◌*◌, ◌≤◌, ◌<◌, length, Option}
 use Rattle.std.proofs.lemmas.List.Edits.{sets}
+use Rattle.std.specs.Borrow.{MutBor}
 use Rattle.model.specs.Calls.{Kind, State, Call}
 use Rattle.trees.specs.Pieces.{Pieces, TakenFor}
 use Rattle.record.specs.Input.{records}
 use Rattle.replies.specs.Lines.{answer, changed, held?, lines, state}
+
+-- the same bytes are lent, whatever is written there
+abbrev pub IsSame : (before after : MutBor (List ℕ)) → Type 0
+IsSame before after = (after.ghost_name ≡ before.ghost_name) × (length after.now ≡ length before.now)
 
 -- from the index at on these bytes were written, and r is the index after them; the rest is as before
 abbrev pub Wrote : (before : List ℕ) (at : ℕ) (bytes after : List ℕ) (r : ℕ) → Type 0

@@ -1,33 +1,34 @@
 // The input, line by line.
 #![tactic(auto)]
 
-ghost use Rattle.std.specs.Prelude.{true, false, ◌≡◌, ◌+◌, ◌≤◌, ◌<◌, length, drop};
+ghost use Rattle.std.specs.Prelude.{true, false, ◌≡◌, ◌+◌, ◌≤◌, ◌<◌, length, drop, option_map};
 ghost use Rattle.model.specs.Calls.{State};
 ghost use Rattle.trees.specs.Pieces.{pieces};
-ghost use Rattle.tree.specs.Depths.{kind};
+ghost use Rattle.record.specs.Commands.{understood};
 ghost use Rattle.record.specs.Input.{Unended, begun, ended};
-ghost use Rattle.replies.specs.Programs.{Feeds, Keeps, longest};
-ghost use Rattle.commands.specs.Commands.{call_in, says};
+ghost use Rattle.replies.specs.Programs.{Feeds, IsSame, Keeps, longest};
+ghost use Rattle.commands.specs.Commands.{call_in};
 ghost use Rattle.stream.specs.Steps.{Steps};
 
-use commands::{Command, parse};
+use commands::{Command, Program, parse};
 use execution::answer;
 use fields::find;
+use geometry::region::{Place, Region};
 use lines::line_of;
-use replies::has_room;
-use tree::region::axes;
+use replies::Page;
+use tree::kind::Tree;
 
-// What became of a text's first line: it was answered, with the bytes read, where the next line goes and whether a tree is held; or it has not ended; or there is no
-// room for an answer.
-#[derive(Clone, Copy)]
+// What became of a text's first line: it was answered, with the bytes read and whether a tree is held then; or it has not ended; or there is no room for an answer.
+#[derive(Clone, Copy, Debug, PartialEq, Eq)]
 pub enum Step {
-    Line(usize, usize, bool),
+    Line { read: usize, held: bool },
     Unended,
     Full,
 }
 
 // How far the reading came: bytes read, where the next line goes, whether the very start is still ahead, whether a tree is held, and whether it stopped for want of room.
-#[derive(Clone, Copy)]
+// Kept: flags and no `Option`, here and in `Step`, since no value belongs to one case alone: where the reading came to stands either way.
+#[derive(Clone, Copy, Debug, PartialEq, Eq)]
 pub struct Progress {
     pub read: usize,
     pub to: usize,
@@ -36,22 +37,15 @@ pub struct Progress {
     pub full: bool,
 }
 
-// The command of a line, which is given without its line feed.
-fn said(deep: bool, s: &[u8], start: bool) -> Command
-    ensures { call_in deep result ≡ ended (says deep) (begun start s.now) }
+// The command of a line, which is given without its line feed, if it is understood.
+fn said<R: Program>(line: &[u8], start: bool) -> Option<Command<R, R::Point>>
+    ensures { option_map (call_in R.sides R.Point.place) result ≡ ended (understood R.made R.kind.axes) (begun start line.now) }
 {
-    let line = line_of(s, start);
-    if !line.fits {
-        return Command::Bad;
-    }
-    let from = line.from;
-    let to = line.to;
-    parse(deep, &s[from..to])
+    parse(line_of(line, start)?)
 }
 
 // Answers the first line of the text.
-fn read_line(
-    deep: bool,
+fn read_line<R: Program>(
     text: &[u8],
     start: bool,
     held: bool,
@@ -59,27 +53,27 @@ fn read_line(
     nodes: &mut [u8],
     links: &mut [u8],
     points: &mut [u8],
-    out: &mut [u8],
-    at: usize,
+    page: &mut Page<'_>,
 ) -> Step
-    ensures { Steps (kind deep) (says deep) start held text.now (pieces head.old nodes.old links.old points.old) (pieces head.new nodes.new links.new points.new) out.old at out.new result }
+    ensures same { IsSame page.old.out page.new.out }
+    ensures steps { Steps R.kind (understood R.made R.kind.axes) start held text.now (pieces head.old nodes.old links.old points.old) (pieces head.new nodes.new links.new points.new) page.old.out.now page.old.at page.new.out.now page.new.at result }
 {
-    let many = axes(deep);
-    if !has_room(many, out, at) {
+    if !page.has_room(R::axes()) {
         return Step::Full;
     }
-    let e = find(text, 10);
-    if e >= text.len() {
+    let Some(end) = find(text, b'\n') else {
         return Step::Unended;
+    };
+    let command = said::<R>(&text[..end], start);
+    let held = answer(command, held, head, nodes, links, points, page);
+    Step::Line {
+        read: end + 1,
+        held,
     }
-    let c = said(deep, &text[0..e], start);
-    let after = answer(deep, c, held, head, nodes, links, points, out, at);
-    Step::Line(e + 1, after.at, after.held)
 }
 
 // Answers the lines of the text, till no line feed or no room is left.
-pub fn feed(
-    deep: bool,
+pub fn feed<R: Program>(
     text: &[u8],
     start: bool,
     held: bool,
@@ -89,38 +83,27 @@ pub fn feed(
     points: &mut [u8],
     out: &mut [u8],
 ) -> Progress
-    ensures feeds { (a : State) → Keeps (kind deep) held (pieces head.old nodes.old links.old points.old) a → Feeds (kind deep) (says deep) a start text.now (pieces head.old nodes.old links.old points.old) result.held (pieces head.new nodes.new links.new points.new) result.start (drop result.read text.now) out.old 0 out.new result.to }
+    ensures feeds { (a : State) → Keeps R.kind held (pieces head.old nodes.old links.old points.old) a → Feeds R.kind (understood R.made R.kind.axes) a start text.now (pieces head.old nodes.old links.old points.old) result.held (pieces head.new nodes.new links.new points.new) result.start (drop result.read text.now) out.old 0 out.new result.to }
     ensures bounds { (result.read ≤ length text.now) × (result.to ≤ length out.old) }
-    ensures stopped { (result.full ≡ false → Unended (drop result.read text.now)) × (result.full ≡ true → length out.old < result.to + longest (kind deep).axes) }
+    ensures stopped { (result.full ≡ false → Unended (drop result.read text.now)) × (result.full ≡ true → length out.old < result.to + longest R.kind.axes) }
 {
+    let mut page = Page { out, at: 0 };
     let mut at = 0;
-    let mut to = 0;
     let mut first = start;
     let mut has = held;
+    // Kept: it goes from line to line, and these differ in length.
     while at < text.len() {
-        let step = read_line(
-            deep,
-            &text[at..],
-            first,
-            has,
-            head,
-            nodes,
-            links,
-            points,
-            out,
-            to,
-        );
-        match step {
-            Step::Line(read, next, holds) => {
+        let left = &text[at..];
+        match read_line::<R>(left, first, has, head, nodes, links, points, &mut page) {
+            Step::Line { read, held } => {
                 at += read;
-                to = next;
                 first = false;
-                has = holds;
+                has = held;
             }
             Step::Unended => {
                 return Progress {
                     read: at,
-                    to,
+                    to: page.at,
                     start: first,
                     held: has,
                     full: false,
@@ -129,7 +112,7 @@ pub fn feed(
             Step::Full => {
                 return Progress {
                     read: at,
-                    to,
+                    to: page.at,
                     start: first,
                     held: has,
                     full: true,
@@ -139,7 +122,7 @@ pub fn feed(
     }
     Progress {
         read: at,
-        to,
+        to: page.at,
         start: first,
         held: has,
         full: false,

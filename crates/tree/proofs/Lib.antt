@@ -1,3 +1,2 @@
--- What is proved of the code that both trees share.
-pub mod Depths
-pub mod Numbers
+-- What is proved of both trees.
+pub mod Zips

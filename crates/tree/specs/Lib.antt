@@ -1,2 +1,3 @@
 -- What the code that both trees share means. Definitions only.
-pub mod Depths
+pub mod Lists
+pub mod Sides

@@ -1,6 +1,9 @@
-// Both trees over places: quadtree.rs and octree.rs, once, for places with a z and without.
+// Both trees over places: quadtree.rs and octree.rs, once, for any box whose kind of tree is known.
 #![tactic(auto)]
 
 pub mod head;
+pub mod kind;
+pub mod lists;
 pub mod place;
-pub mod region;
+pub mod plane;
+pub mod space;

@@ -1,24 +1,43 @@
-// What lies in a place of the points.
-ghost use Rattle.std.specs.Prelude.{◌≡◌};
+// The points in their places, and the nodes of children.
+ghost use Rattle.std.specs.Prelude.{◌≡◌, ◌<◌};
 ghost use Rattle.words.specs.Words.{words};
-ghost use Rattle.tree.specs.Depths.{kind, place};
+ghost use Rattle.model.specs.Boxes.{route};
+ghost use Rattle.model.specs.Calls.{ways};
+ghost use Rattle.pool.specs.Writes.{kid};
 ghost use Rattle.trees.specs.Points.{point_at};
 
-use geometry::space::Point3D;
-use words::get_float;
+use crate::kind::Tree;
+use geometry::region::{Place, Region};
+use pieces::base;
+use pool::child;
 
-pub fn point_at(deep: bool, points: &[u8], p: u32) -> Point3D
-    ensures { place deep result ≡ (point_at (kind deep).axes (words points.now) p).at }
+// The point in place p.
+pub fn point_at<R: Tree>(points: &[u8], p: u32) -> R::Point
+    ensures { R.Point.place result ≡ (point_at R.kind.axes (words points.now) p).at }
 {
-    if deep {
-        let i = 4 * (p as usize);
-        let x = get_float(points, i);
-        let y = get_float(points, i + 1);
-        let z = get_float(points, i + 2);
-        return Point3D { x, y, z };
-    }
-    let i = 3 * (p as usize);
-    let x = get_float(points, i);
-    let y = get_float(points, i + 1);
-    Point3D { x, y, z: 0.0 }
+    R::read(points, base(R::axes(), p))
+}
+
+// The node of child c of group k.
+pub fn kid<R: Tree>(k: u32, c: u8) -> usize
+    ensures value { result ≡ kid (ways R.kind) k c }
+    ensures near { result < 1099511627776 }
+{
+    child(R::ways(), k, c)
+}
+
+// The child that a point goes to.
+pub fn child_index<R: Tree>(b: R, p: R::Point) -> u8
+    ensures value { result ≡ route (R.sides b) (R.Point.place p) }
+    ensures within { result < ways R.kind }
+{
+    (b.child_index(p) % (R::ways() as usize)) as u8
+}
+
+// A node with its box, and how many levels lie below it.
+#[derive(Clone, Copy)]
+pub struct Node<R> {
+    pub index: usize,
+    pub bounds: R,
+    pub levels: u8,
 }

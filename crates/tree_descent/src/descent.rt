@@ -1,7 +1,6 @@
 // The way down to the undivided node that a point goes to, and the search of its list.
 ghost use Rattle.std.specs.Prelude.{◌≡◌, length};
 ghost use Rattle.words.specs.Words.{words};
-ghost use Rattle.tree.specs.Depths.{kind, place, sides};
 ghost use Rattle.trees.specs.Points.{point_at};
 ghost use Rattle.model.specs.Boxes.{route};
 ghost use Rattle.model.specs.Calls.{ways};
@@ -11,65 +10,58 @@ ghost use Rattle.trees.proofs.Descents.{reach, together, Needs};
 ghost use Rattle.trees.proofs.Finds.{seek};
 ghost use Rattle.trees.proofs.Walks.{Notes};
 ghost use Rattle.trees.proofs.Ways.{way};
+ghost use Rattle.tree_descent.specs.Spots.{Spots};
 
-use geometry::space::{Cube, Point3D};
-use paths::note_node;
-use pieces::payload;
-use pool::{count, first, group, next};
-use tree::place::point_at;
-use tree::region;
-use tree::region::{axes, kid};
+use geometry::region::{Place, Region};
+use paths::note;
+use pieces::{Pieces, payload};
+use pool::{count, first, group};
+use tree::kind::Tree;
+use tree::lists::list;
+use tree::place::{Node, child_index, kid, point_at};
 
-// A node with its box, the levels below it, and how many nodes were noted on the way to it.
+// An undivided node, and how many nodes were noted on the way to it.
 #[derive(Clone, Copy)]
-pub struct Leaf {
-    pub node: usize,
-    pub bounds: Cube,
-    pub levels: u8,
+pub struct Leaf<R> {
+    pub node: Node<R>,
     pub depth: usize,
 }
 
 // The undivided node that a point goes to; the nodes on the way are noted. A point inside the boundary is inside every box on its way, so no box is asked.
-pub fn leaf_of(
-    deep: bool,
-    nodes: &[u8],
-    i: usize,
-    bounds: Cube,
-    levels: u8,
-    point: Point3D,
-    path: &mut [usize],
-) -> Leaf
-    ensures { (record { node = result.node; box = sides deep result.bounds; levels = result.levels } ≡ reach (ways (kind deep)) (words nodes.now) (place deep point) levels (sides deep bounds) i) × Notes (way (ways (kind deep)) (words nodes.now) (place deep point) levels (sides deep bounds) i) path.old 0 path.new result.depth }
+pub fn leaf_of<R: Tree>(nodes: &[u8], from: Node<R>, point: R::Point, path: &mut [usize]) -> Leaf<R>
+    ensures node { record { node = result.node.index; box = R.sides result.node.bounds; levels = result.node.levels } ≡ reach (ways R.kind) (words nodes.now) (R.Point.place point) from.levels (R.sides from.bounds) from.index }
+    ensures notes { Notes (way (ways R.kind) (words nodes.now) (R.Point.place point) from.levels (R.sides from.bounds) from.index) path.old 0 path.new result.depth }
 {
-    let mut node = i;
-    let mut b = bounds;
-    let mut left = levels;
+    let Node {
+        mut index,
+        mut bounds,
+        levels,
+    } = from;
     let mut depth = 0;
-    while left > 0 {
-        let k = group(nodes, node);
+    for step in 0..levels {
+        let k = group(nodes, index);
         if k == 0 {
-            return Leaf {
-                node,
-                bounds: b,
-                levels: left,
-                depth,
+            let node = Node {
+                index,
+                bounds,
+                levels: levels - step,
             };
+            return Leaf { node, depth };
         }
-        depth = note_node(path, depth, node);
-        let c = region::child_index(deep, b, point);
-        node = kid(deep, k, c);
-        b = region::part(deep, b, c);
-        left -= 1;
+        depth = note(path, depth, index);
+        let c = child_index(bounds, point);
+        index = kid::<R>(k, c);
+        bounds = bounds.child(c as usize);
     }
-    Leaf {
-        node,
-        bounds: b,
-        levels: left,
-        depth,
-    }
+    let node = Node {
+        index,
+        bounds,
+        levels: 0,
+    };
+    Leaf { node, depth }
 }
 
-// Where a point stands in its list: its place or 0, and the place before it or 0.
+// Where a point stands in its list: its place, and the place before it or 0.
 #[derive(Clone, Copy)]
 pub struct Spot {
     pub place: u32,
@@ -77,105 +69,60 @@ pub struct Spot {
 }
 
 // The payload is asked first: it is one word, and most points differ in it.
-fn same_at(deep: bool, points: &[u8], p: u32, point: Point3D, mark: u32) -> bool
-    ensures { result ≡ same (record { at = place deep point; payload = mark }) (point_at (kind deep).axes (words points.now) p) }
+fn same_at<R: Tree>(points: &[u8], p: u32, point: R::Point, mark: u32) -> bool
+    ensures { result ≡ same (record { at = R.Point.place point; payload = mark }) (point_at R.kind.axes (words points.now) p) }
 {
-    if payload(axes(deep), points, p) != mark {
+    if payload(R::axes(), points, p) != mark {
         return false;
     }
-    let held = point_at(deep, points, p);
-    region::same(deep, point, held)
+    point.same(point_at::<R>(points, p))
 }
 
 // The first place of a list whose point is equal.
-pub fn find_in(
-    deep: bool,
-    links: &[u8],
-    points: &[u8],
-    head: u32,
-    point: Point3D,
-    mark: u32,
-) -> Spot
-    ensures { record { place = result.place; before = result.before } ≡ seek (λ p. same (record { at = place deep point; payload = mark }) (point_at (kind deep).axes (words points.now) p)) (chain (length (words links.now)) (words links.now) head) 0 }
+pub fn find_in<R: Tree>(tree: &Pieces<'_>, head: u32, point: R::Point, mark: u32) -> Option<Spot>
+    ensures { Spots result (seek (λ p. same (record { at = R.Point.place point; payload = mark }) (point_at R.kind.axes (words tree.now.points.now) p)) (chain (length (words tree.now.links.now)) (words tree.now.links.now) head) 0) }
 {
-    let mut left = links.len() / 4;
-    let mut p = head;
-    let mut b: u32 = 0;
-    while left > 0 {
-        if p == 0 {
-            return Spot {
-                place: 0,
-                before: b,
-            };
+    let mut before: u32 = 0;
+    for place in list(tree.links, head) {
+        if same_at::<R>(tree.points, place, point, mark) {
+            return Some(Spot { place, before });
         }
-        if same_at(deep, points, p, point, mark) {
-            return Spot {
-                place: p,
-                before: b,
-            };
-        }
-        b = p;
-        p = next(links, p);
-        left -= 1;
+        before = place;
     }
-    Spot {
-        place: 0,
-        before: b,
-    }
+    None
 }
 
 // Whether all points of a list go to child c.
-fn all_go(deep: bool, links: &[u8], points: &[u8], head: u32, bounds: Cube, c: u8) -> bool
-    ensures { result ≡ together (λ p. route (sides deep bounds) (point_at (kind deep).axes (words points.now) p).at) c (length (words links.now)) (words links.now) head }
+fn all_go<R: Tree>(tree: &Pieces<'_>, head: u32, bounds: R, c: u8) -> bool
+    ensures { result ≡ together (λ p. route (R.sides bounds) (point_at R.kind.axes (words tree.now.points.now) p).at) c (length (words tree.now.links.now)) (words tree.now.links.now) head }
 {
-    let mut left = links.len() / 4;
-    let mut p = head;
-    while left > 0 {
-        if p == 0 {
-            return true;
-        }
-        let held = point_at(deep, points, p);
-        let t = region::child_index(deep, bounds, held);
-        if t != c {
+    for p in list(tree.links, head) {
+        if child_index(bounds, point_at::<R>(tree.points, p)) != c {
             return false;
         }
-        p = next(links, p);
-        left -= 1;
     }
     true
 }
 
-// How many groups the undivided node i takes when a point comes that goes to it.
-pub fn need(
-    deep: bool,
-    nodes: &[u8],
-    links: &[u8],
-    points: &[u8],
-    i: usize,
-    bounds: Cube,
-    levels: u8,
-    capacity: u32,
-    point: Point3D,
-) -> u8
-    ensures { Needs capacity (point_at (kind deep).axes (words points.now)) (place deep point) (words nodes.now) (words links.now) i levels (sides deep bounds) result }
+// How many groups an undivided node takes when a point comes that goes to it.
+pub fn need<R: Tree>(tree: &Pieces<'_>, node: Node<R>, capacity: u32, point: R::Point) -> u8
+    ensures { Needs capacity (point_at R.kind.axes (words tree.now.points.now)) (R.Point.place point) (words tree.now.nodes.now) (words tree.now.links.now) node.index node.levels (R.sides node.bounds) result }
 {
-    let n = count(nodes, i);
-    if n < capacity {
+    let Node {
+        index,
+        mut bounds,
+        levels,
+    } = node;
+    if count(tree.nodes, index) < capacity {
         return 0;
     }
-    let head = first(nodes, i);
-    let mut b = bounds;
-    let mut left = levels;
-    let mut more: u8 = 0;
-    while left > 0 {
-        let c = region::child_index(deep, b, point);
-        let on = all_go(deep, links, points, head, b, c);
-        if !on {
+    let head = first(tree.nodes, index);
+    for more in 0..levels {
+        let c = child_index(bounds, point);
+        if !all_go(tree, head, bounds, c) {
             return more + 1;
         }
-        b = region::part(deep, b, c);
-        more += 1;
-        left -= 1;
+        bounds = bounds.child(c as usize);
     }
-    more
+    levels
 }

@@ -1,2 +1,1 @@
--- What is proved of the queries.
 pub mod Handed

@@ -2,120 +2,111 @@
 ghost use Rattle.std.specs.Prelude.{map, min, take};
 ghost use Rattle.words.specs.Words.{words};
 ghost use Rattle.model.specs.Calls.{Box, Nearest, Radius};
-ghost use Rattle.tree.specs.Depths as depths;
-ghost use Rattle.tree.specs.Depths.{kind, region};
+ghost use Rattle.pieces.specs.Replies.{count_in, number_in};
+ghost use Rattle.pieces.specs.Views.{seen};
 ghost use Rattle.trees.specs.Handed.{Handed};
 ghost use Rattle.trees.specs.Points.{point_at};
-ghost use Rattle.trees.specs.Pieces.{SearchesHeld, pieces, room_for};
+ghost use Rattle.trees.specs.Pieces.{SearchesHeld, room_for};
 
-use answers::{Told, answer};
-use geometry::space::{Cube, Point3D};
+use answers::answer;
+use geometry::region::{Place, Region};
+use knn::Table;
+use pieces::{Pieces, Refusal};
 use tree::head::boundary;
-use tree::region::axes;
+use tree::kind::Tree;
+use tree::place::Node;
 use tree_search::nearest::knn_search_helper;
-use tree_search::search::{Question, collect};
+use tree_search::question::{Inside, Within};
+use tree_search::search::collect;
 
 // Hands over the points of the first n places found, if all of them fit.
-fn hand_over(
-    deep: bool,
+fn hand_over<R: Tree>(
     points: &[u8],
     found: &[u32],
     n: usize,
     coords: &mut [u8],
     payloads: &mut [u8],
-) -> Told
-    ensures { Handed (room_for (kind deep).axes coords.old payloads.old) (map (point_at (kind deep).axes (words points.now)) (take (min n 512) found.now)) coords.old payloads.old coords.new payloads.new result.reply result.count }
+) -> Result<u32, Refusal>
+    ensures { Handed (room_for R.kind.axes coords.old payloads.old) (map (point_at R.kind.axes (words points.now)) (take (min n 512) found.now)) coords.old payloads.old coords.new payloads.new (number_in result) (count_in result) }
 {
-    answer(axes(deep), points, found, n, coords, payloads)
+    answer(R::axes(), points, found, n, coords, payloads)
 }
 
-pub fn range_search(
-    deep: bool,
-    head: &[u8],
-    nodes: &[u8],
-    links: &[u8],
-    points: &[u8],
-    x: f64,
-    y: f64,
-    z: f64,
+pub fn range_search<R: Tree>(
+    tree: &Pieces<'_>,
+    center: R::Point,
     radius: f64,
     coords: &mut [u8],
     payloads: &mut [u8],
-) -> Told
-    ensures { SearchesHeld (kind deep) (Radius (depths.coords deep x y z) radius (room_for (kind deep).axes coords.old payloads.old)) (pieces head.now nodes.now links.now points.now) coords.old payloads.old coords.new payloads.new result.reply result.count }
+) -> Result<u32, Refusal>
+    ensures { SearchesHeld R.kind (Radius (R.Point.place center) radius (room_for R.kind.axes coords.old payloads.old)) (seen tree.now) coords.old payloads.old coords.new payloads.new (number_in result) (count_in result) }
 {
     if radius < 0.0 {
-        return Told { reply: 0, count: 0 };
+        return Ok(0);
     }
-    let bounds = boundary(deep, head);
-    let center = Point3D { x, y, z };
-    let question = Question::Radius(center, radius * radius);
+    let question = Within {
+        center,
+        limit: radius * radius,
+    };
+    center.numbers();
+    let root = Node {
+        index: 1,
+        bounds: boundary::<R>(tree.head),
+        levels: 32,
+    };
     let mut found: [u32; 512] = [0; 512];
-    let n = collect(
-        deep, nodes, links, points, 1, bounds, 32, question, &mut found, 0,
-    );
-    hand_over(deep, points, &found, n, coords, payloads)
+    let n = collect(tree, root, question, &mut found, 0);
+    hand_over::<R>(tree.points, &found, n, coords, payloads)
 }
 
-pub fn range_search_bbox(
-    deep: bool,
-    head: &[u8],
-    nodes: &[u8],
-    links: &[u8],
-    points: &[u8],
-    x: f64,
-    y: f64,
-    z: f64,
-    width: f64,
-    height: f64,
-    depth: f64,
+pub fn range_search_bbox<R: Tree>(
+    tree: &Pieces<'_>,
+    query: R,
     coords: &mut [u8],
     payloads: &mut [u8],
-) -> Told
-    ensures { SearchesHeld (kind deep) (Box (region deep x y z width height depth) (room_for (kind deep).axes coords.old payloads.old)) (pieces head.now nodes.now links.now points.now) coords.old payloads.old coords.new payloads.new result.reply result.count }
+) -> Result<u32, Refusal>
+    ensures { SearchesHeld R.kind (Box (R.sides query) (room_for R.kind.axes coords.old payloads.old)) (seen tree.now) coords.old payloads.old coords.new payloads.new (number_in result) (count_in result) }
 {
-    let bounds = boundary(deep, head);
-    let query = Cube {
-        x,
-        y,
-        z,
-        width,
-        height,
-        depth,
+    query.numbers();
+    let root = Node {
+        index: 1,
+        bounds: boundary::<R>(tree.head),
+        levels: 32,
     };
-    let area = Question::Box(query);
     let mut found: [u32; 512] = [0; 512];
-    let n = collect(
-        deep, nodes, links, points, 1, bounds, 32, area, &mut found, 0,
-    );
-    hand_over(deep, points, &found, n, coords, payloads)
+    let n = collect(tree, root, Inside { query }, &mut found, 0);
+    hand_over::<R>(tree.points, &found, n, coords, payloads)
 }
 
 // The table needs room for one at least, so that nothing is asked of it for k = 0.
-pub fn knn_search(
-    deep: bool,
-    head: &[u8],
-    nodes: &[u8],
-    links: &[u8],
-    points: &[u8],
-    x: f64,
-    y: f64,
-    z: f64,
+pub fn knn_search<R: Tree>(
+    tree: &Pieces<'_>,
+    target: R::Point,
     k: u32,
     coords: &mut [u8],
     payloads: &mut [u8],
-) -> Told
-    ensures { SearchesHeld (kind deep) (Nearest (depths.coords deep x y z) k (room_for (kind deep).axes coords.old payloads.old)) (pieces head.now nodes.now links.now points.now) coords.old payloads.old coords.new payloads.new result.reply result.count }
+) -> Result<u32, Refusal>
+    ensures { SearchesHeld R.kind (Nearest (R.Point.place target) k (room_for R.kind.axes coords.old payloads.old)) (seen tree.now) coords.old payloads.old coords.new payloads.new (number_in result) (count_in result) }
 {
     if k == 0 {
-        return Told { reply: 0, count: 0 };
+        return Ok(0);
     }
-    let bounds = boundary(deep, head);
-    let target = Point3D { x, y, z };
+    target.numbers();
+    let root = Node {
+        index: 1,
+        bounds: boundary::<R>(tree.head),
+        levels: 32,
+    };
     let mut dist: [f64; 512] = [0.0; 512];
     let mut item: [u32; 512] = [0; 512];
-    let n = knn_search_helper(
-        deep, nodes, links, points, 1, bounds, 32, target, k as usize, &mut dist, &mut item, 0,
-    );
-    hand_over(deep, points, &item, n, coords, payloads)
+    let mut table = Table {
+        dist: &mut dist,
+        item: &mut item,
+        count: 0,
+        k: k as usize,
+    };
+    knn_search_helper(tree, root, target, &mut table);
+    let n = table.count;
+    let found = &mut *table.item;
+    hand_over::<R>(tree.points, found, n, coords, payloads)
 }

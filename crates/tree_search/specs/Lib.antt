@@ -1,1 +1,2 @@
 pub mod Questions
+pub mod Tables

@@ -2,4 +2,5 @@
 #![tactic(auto)]
 
 pub mod nearest;
+pub mod question;
 pub mod search;

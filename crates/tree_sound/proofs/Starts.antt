@@ -1,34 +1,29 @@
--- The start and the end of the walk, for either kind of tree.
-use mathlib.Core.Path.{◌≡◌, subst, subst₂}
-use mathlib.Core.Bool.{Bool, true, false}
+-- The marks that the soundness test begins with: for groups the part of an array of marks not set that a tree has. Assumes nothing.
+use mathlib.Core.Path.{◌≡◌, ap, sym, ◌∙◌, subst}
+use mathlib.Core.Bool.{Bool, false}
 use mathlib.Core.List.{List}
-use Prim.Native.Nat.{ℕ, ◌<◌, ◌≤◌}
+use Prim.Native.Nat.{ℕ, suc, ◌+◌, ◌≤◌}
 use native.Mathlib.Omega.{arith}
-use lib.Ieee.{Float, nan}
-use Rattle.model.specs.Boxes.{Side, far}
-use Rattle.model.specs.Calls.{ways}
+use lib.ListN.{length, replicate, take}
+use Rattle.std.proofs.lemmas.List.{take-replicate}
+use Rattle.model.specs.Boxes.{Side}
 use Rattle.model.specs.Trees.{Point}
-use Rattle.geometry.specs.declared.space.Cube.{Cube}
-use Rattle.trees.proofs.Areas.{Bound, bounding, whole, whole_is}
+use Rattle.trees.proofs.Areas.{Bound}
 use Rattle.trees.proofs.Checks.{Checks}
 use Rattle.trees.proofs.Marks.{Rest}
-use Rattle.tree.specs.Depths.{kind, coords, sides}
+use Rattle.trees.proofs.Soundness.{unmet}
+use Rattle.sound.specs.Flags.{flags}
+use Rattle.sound.proofs.Marks.{flags_length, flags_none}
 
--- the bounds that the root starts with
-pub whole_of : (deep : Bool) (b : Cube) (t : Float) → t ≡ nan → bounding (coords deep b.x b.y b.z) (coords deep t t t) (coords deep (far (record { corner = b.x; extent = b.width })) (far (record { corner = b.y; extent = b.height })) (far (record { corner = b.z; extent = b.depth }))) ≡ whole (sides deep b)
-whole_of true b t e = whole_is (sides true b) t e
-whole_of false b t e = whole_is (sides false b) t e
-
-pub checks_as : (w c : ℕ) (pt : ℕ → Point) (n x : List ℕ) (d : ℕ) (b : List Side) (a : List Bound) (i : ℕ) (m u m0 u0 m1 u1 : List ℕ) (t : Bool) → m ≡ m0 → u ≡ u0 → Checks w c pt n x d b a i m u m1 u1 t → Checks w c pt n x d b a i m0 u0 m1 u1 t
-checks_as w c pt n x d b a i m u m0 u0 m1 u1 t em eu k = subst₂ (λ (p g : List ℕ). Checks w c pt n x d b a i p g m1 u1 t) em eu k
+module _ (w c : ℕ) (pt : ℕ → Point) (n x : List ℕ) (d : ℕ) (b : List Side) (a : List Bound) (i q : ℕ) (m1 u1 : List ℕ) (t : Bool) where
+  pub checks_lent : (r g : ℕ) → r ≡ g → g ≤ 85 → Checks w c pt n x d b a i (flags (replicate q false)) (flags (take (r + 1) (replicate 86 false))) m1 u1 t → Checks w c pt n x d b a i (unmet q) (unmet (suc g)) m1 u1 t
+  checks_lent r g e h k = subst (λ (m : List ℕ). Checks w c pt n x d b a i m (unmet (suc g)) m1 u1 t) (flags_none q) (subst (λ (u : List ℕ). Checks w c pt n x d b a i (flags (replicate q false)) u m1 u1 t) lent k)
+    where
+      lent : flags (take (r + 1) (replicate 86 false)) ≡ unmet (suc g)
+      lent = ap flags (take-replicate (r + 1) 86 false (omega (arith, e, h))) ∙ flags_none (r + 1) ∙ ap unmet {x = r + 1} {y = suc g} (omega (arith, e))
 
 pub rest_as : (w w' : ℕ) (n x m u : List ℕ) (r : Bool) → w ≡ w' → Rest w n x m u r → Rest w' n x m u r
 rest_as w w' n x m u r e q = subst (λ (v : ℕ). Rest v n x m u r) e q
 
-pub some_ways : (deep : Bool) → 0 < ways (kind deep)
-some_ways true = omega arith
-some_ways false = omega arith
-
-pub two_ways : (deep : Bool) → 2 ≤ ways (kind deep)
-two_ways true = omega arith
-two_ways false = omega arith
+pub flags_long : (m m' : List Bool) → length m ≡ length m' → length (flags m) ≡ length (flags m')
+flags_long m m' e = flags_length m ∙ e ∙ sym (flags_length m')

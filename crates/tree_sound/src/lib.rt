@@ -2,140 +2,92 @@
 // comes twice or lies outside, so that it ends, and visits no more than there are.
 #![tactic(auto)]
 
-ghost use Rattle.std.specs.Prelude.{◌≡◌, suc, replicate};
 ghost use Rattle.words.specs.Words.{words};
 ghost use Rattle.model.specs.Calls.{ways};
-ghost use Rattle.tree.specs.Depths.{groups, kind, place, sides};
+ghost use Rattle.pieces.specs.Views.{seen};
 ghost use Rattle.trees.specs.Points.{point_at};
-ghost use Rattle.trees.specs.Pieces.{pieces, Sane, Decides};
-ghost use Rattle.trees.proofs.Areas.{bounding};
+ghost use Rattle.trees.specs.Pieces.{Decides, Sane};
 ghost use Rattle.trees.proofs.Checks.{Checks};
+ghost use Rattle.sound.specs.Flags.{flags};
 
-use geometry::space::{Cube, Point3D};
+use geometry::region::Region;
+use pieces::Pieces;
 use pool::{count, group};
-use sound::{children_count, claim, no_top, rest_is_free};
-use tree::head::{accepts, boundary, capacity, fits};
-use tree::region;
-use tree::region::{kid, ways};
-use tree_sound_leaves::{check_leaf, low_part, top_part};
+use sound::{children_count, claim, rest_is_free};
+use tree::head::{boundary, capacity, fits};
+use tree::kind::Tree;
+use tree::place::{Node, kid};
+use tree_sound_leaves::area::Bounded;
+use tree_sound_leaves::leaf::check_leaf;
 
-// Whether the words hold a tree at node i, which is there, with this box and these bounds and so many levels below it; what it meets is marked.
-fn check_node(
-    deep: bool,
-    nodes: &[u8],
-    links: &[u8],
-    points: &[u8],
-    i: usize,
-    bounds: Cube,
-    low: Point3D,
-    top: Point3D,
-    edge: Point3D,
-    levels: u8,
+// Whether the words hold a tree at a node, which is there, with this box and this area and so many levels below it; what it meets is marked.
+fn check_node<R: Bounded>(
+    tree: &Pieces<'_>,
+    node: Node<R>,
+    area: R::Area,
     capacity: u32,
-    homes: &mut [u8],
-    used: &mut [u8],
+    homes: &mut [bool],
+    used: &mut [bool],
 ) -> bool
-    ensures { Checks (ways (kind deep)) capacity (point_at (kind deep).axes (words points.now)) (words nodes.now) (words links.now) levels (sides deep bounds) (bounding (place deep low) (place deep top) (place deep edge)) i homes.old used.old homes.new used.new result }
+    ensures { Checks (ways R.kind) capacity (point_at R.kind.axes (words tree.now.points.now)) (words tree.now.nodes.now) (words tree.now.links.now) node.levels (R.sides node.bounds) (R.bounds area) node.index (flags homes.old) (flags used.old) (flags homes.new) (flags used.new) result }
 {
-    let most = ways(deep);
-    let g = group(nodes, i);
-    if g == 0 {
-        return check_leaf(
-            deep, nodes, links, points, i, low, top, edge, levels, capacity, homes,
-        );
+    let bounds = node.bounds;
+    let k = group(tree.nodes, node.index);
+    if k == 0 {
+        return check_leaf::<R>(tree, node.index, node.levels, area, capacity, homes);
     }
-    let n = count(nodes, i);
-    if levels == 0 {
+    let n = count(tree.nodes, node.index);
+    if node.levels == 0 || n <= capacity || !claim(used, k) {
         return false;
     }
-    if n <= capacity {
-        return false;
-    }
-    if !claim(used, g) {
-        return false;
-    }
-    let below = levels - 1;
-    let mut c: u8 = 0;
-    while c < most {
-        let j = kid(deep, g, c);
-        let l = low_part(deep, bounds, low, c);
-        let t = top_part(deep, bounds, top, c);
-        if group(nodes, j) == 0 {
-            if !check_leaf(
-                deep, nodes, links, points, j, l, t, edge, below, capacity, homes,
-            ) {
+    let below = node.levels - 1;
+    for c in 0..R::ways() {
+        let i = kid::<R>(k, c);
+        let part = bounds.narrowed(area, c);
+        if group(tree.nodes, i) == 0 {
+            if !check_leaf::<R>(tree, i, below, part, capacity, homes) {
                 return false;
             }
-            c += 1;
             continue;
         }
-        let part = region::part(deep, bounds, c);
-        if !check_node(
-            deep, nodes, links, points, j, part, l, t, edge, below, capacity, homes, used,
-        ) {
+        let child = Node {
+            index: i,
+            bounds: bounds.child(c as usize),
+            levels: below,
+        };
+        if !check_node::<R>(tree, child, part, capacity, homes, used) {
             return false;
         }
-        c += 1;
     }
-    children_count(nodes, most, g) == n as u64
-}
-
-// Whether the pieces hold a sound tree, with nothing marked yet in the two lists of marks.
-fn walk(
-    deep: bool,
-    head: &[u8],
-    nodes: &[u8],
-    links: &[u8],
-    points: &[u8],
-    homes: &mut [u8],
-    used: &mut [u8],
-) -> bool
-    ensures { homes.old ≡ replicate 513 0 → used.old ≡ replicate (suc (groups deep)) 0 → Decides result (Sane (kind deep) (pieces head.now nodes.now links.now points.now)) }
-{
-    if !fits(deep, head, nodes, links, points) {
-        return false;
-    }
-    let b = boundary(deep, head);
-    if !accepts(deep, b) {
-        return false;
-    }
-    let n = capacity(deep, head);
-    if n == 0 {
-        return false;
-    }
-    let low = Point3D {
-        x: b.x,
-        y: b.y,
-        z: b.z,
-    };
-    let none = no_top();
-    let top = Point3D {
-        x: none,
-        y: none,
-        z: none,
-    };
-    let edge = Point3D {
-        x: b.x + b.width,
-        y: b.y + b.height,
-        z: b.z + b.depth,
-    };
-    if !check_node(
-        deep, nodes, links, points, 1, b, low, top, edge, 32, n, homes, used,
-    ) {
-        return false;
-    }
-    rest_is_free(nodes, links, ways(deep), homes, used)
+    children_count(tree.nodes, R::ways(), k) == n as u64
 }
 
 // Whether the pieces hold a sound tree.
-pub fn sound(deep: bool, head: &[u8], nodes: &[u8], links: &[u8], points: &[u8]) -> bool
-    ensures { Decides result (Sane (kind deep) (pieces head.now nodes.now links.now points.now)) }
+pub fn sound<R: Bounded>(tree: &Pieces<'_>) -> bool
+    ensures { Decides result (Sane R.kind (seen tree.now)) }
 {
-    let mut homes: [u8; 513] = [0; 513];
-    if deep {
-        let mut used: [u8; 41] = [0; 41];
-        return walk(deep, head, nodes, links, points, &mut homes, &mut used);
+    if !fits::<R>(tree) {
+        return false;
     }
-    let mut used: [u8; 86] = [0; 86];
-    walk(deep, head, nodes, links, points, &mut homes, &mut used)
+    let bounds = boundary::<R>(tree.head);
+    if !bounds.accepts() {
+        return false;
+    }
+    let n = capacity::<R>(tree.head);
+    if n == 0 {
+        return false;
+    }
+    let root = Node {
+        index: 1,
+        bounds,
+        levels: 32,
+    };
+    // A mark for each place, and for each group that this tree has room for.
+    let mut homes = [false; 513];
+    let mut used = [false; 86];
+    let groups = &mut used[..R::rows() as usize + 1];
+    if !check_node::<R>(tree, root, bounds.whole(), n, &mut homes, groups) {
+        return false;
+    }
+    rest_is_free(tree.nodes, tree.links, R::ways(), &mut homes, groups)
 }

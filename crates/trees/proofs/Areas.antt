@@ -3,15 +3,15 @@
 use mathlib.Core.Path.{◌≡◌, refl, ap, ap₂, sym, ◌∙◌, subst}
 use mathlib.Core.Logic.{◌≢◌, inl, inr}
 use mathlib.Core.Bool.{Bool, true, false, not, ◌&&◌, ◌||◌, cond}
-use mathlib.Core.List.{List, [], ◌∷◌, map}
+use mathlib.Core.List.{List, [], ◌∷◌}
 use Prim.Native.Nat.{ℕ, suc, ◌+◌, ◌*◌, ◌/◌, ◌%◌, ◌^◌, ◌<◌}
 use native.Mathlib.Omega.{arith}
 use native.Mathlib.Nat.{pow-succ'}
 use lib.Dec.{T, eqb, lit≤}
-use borrow.Author.Tests.{not-true, not-false, eqb-true, eqb-false, eq-eqb, ne_eqb}
+use borrow.Author.Tests.{not-false, eqb-true, eqb-false, eq-eqb, ne_eqb}
 use lib.ListN.{length}
 use lib.IntN.{pos}
-use lib.Ieee.{Float, nan, fin, binary64, neg, le, lt, eq, ne, fits, of_bits, nan_bits}
+use lib.Ieee.{Float, nan, fin, binary64, neg, le, lt, eq, ne, fits, of_bits}
 use lib.Ieee.Bits.{is_true, of_bits-fits}
 use lib.Ieee.Fits.{neg-fits}
 use Rattle.floats.specs.Values.{plus_zero}
@@ -239,9 +239,6 @@ whole_length (s ∷ b) = ap suc (whole_length b)
 
 -- ---- as the code has them
 module _ (h : Bool) (l m : Float) where
-  pub low_same : not h ≡ true → l ≡ cond h (higher l m) l
-  low_same e = sym (ap (λ (t : Bool). cond t (higher l m) l) (not-true h e))
-
   pub low_mid : not h ≡ false → le l m || ne m m ≡ true → m ≡ cond h (higher l m) l
   unfolding higher
   low_mid e t = sym (ap₂ (λ (u v : Bool). cond u (cond v m l) l) (not-false h e) t)
@@ -264,10 +261,6 @@ most = fin false 1 (pos 500)
 
 abbrev limit : Float
 limit = of_bits binary64 0x5f30_0000_0000_0000
-
-pub limit_no_nan : T (not (nan_bits binary64 0x5f30_0000_0000_0000))
-unfolding nan_bits
-limit_no_nan = tt
 
 limit_is : T (eq limit most)
 unfolding of_bits eq
@@ -295,64 +288,6 @@ bounded_is v f = ap₂ (λ (a b : Bool). a && b) (eq_le (neg limit) (fin true 1 
 
 pub side_is : (c e : Float) → F64 c → F64 e → (le (neg limit) c && le c limit) && ((le (neg limit) e && le e limit) && le (of_bits binary64 0) e) ≡ bounded c && (bounded e && le plus_zero e)
 side_is c e fc fe = ap₂ (λ (a b : Bool). a && b) (bounded_is c fc) (ap₂ (λ (a b : Bool). a && b) (bounded_is e fe) (ap (λ (z : Float). le z e) zero_bits))
-
--- ---- the bounds as three places: the low ends, the top ones, and the boundary's edges
-unfoldable pub bounding : List Float → List Float → List Float → List Bound
-bounding [] ts es = []
-bounding (l ∷ ls) [] es = []
-bounding (l ∷ ls) (t ∷ ts) [] = []
-bounding (l ∷ ls) (t ∷ ts) (e ∷ es) = record { low = l; top = t; edge = e } ∷ bounding ls ts es
-
--- those of the child with the number i
-unfoldable pub lows : List Side → List Float → ℕ → List Float
-unfolding higher mid
-lows [] ls i = []
-lows (s ∷ b) [] i = []
-lows (s ∷ b) (l ∷ ls) i = cond (eqb (i % 2) 1) (higher l (mid s)) l ∷ lows b ls (i / 2)
-
-unfoldable pub tops : List Side → List Float → ℕ → List Float
-unfolding lower mid
-tops [] ts i = []
-tops (s ∷ b) [] i = []
-tops (s ∷ b) (t ∷ ts) i = cond (eqb (i % 2) 1) t (lower t (mid s)) ∷ tops b ts (i / 2)
-
-pub narrowed_bounding : (b : List Side) (ls ts es : List Float) (i : ℕ) → bounding (lows b ls i) (tops b ts i) es ≡ narrowed b (bounding ls ts es) i
-unfolding narrowed bounding lows tops halved
-narrowed_bounding [] ls ts es i = refl
-narrowed_bounding (s ∷ b) [] ts es i = refl
-narrowed_bounding (s ∷ b) (l ∷ ls) [] es i = refl
-narrowed_bounding (s ∷ b) (l ∷ ls) (t ∷ ts) [] i = refl
-narrowed_bounding (s ∷ b) (l ∷ ls) (t ∷ ts) (e ∷ es) i = ap (λ (a : List Bound). halved (eqb (i % 2) 1) (mid s) (record { low = l; top = t; edge = e }) ∷ a) (narrowed_bounding b ls ts es (i / 2))
-
--- one axis more
-pub lows_more : (s : Side) (b : List Side) (l : Float) (ls : List Float) (i : ℕ) (y : Float) (r : List Float) → y ≡ cond (eqb (i % 2) 1) (higher l (mid s)) l → r ≡ lows b ls (i / 2) → y ∷ r ≡ lows (s ∷ b) (l ∷ ls) i
-unfolding lows
-lows_more s b l ls i y r ey er = ap₂ {C = List Float} (λ (u : Float) (v : List Float). u ∷ v) ey er
-
-pub tops_more : (s : Side) (b : List Side) (t : Float) (ts : List Float) (i : ℕ) (y : Float) (r : List Float) → y ≡ cond (eqb (i % 2) 1) t (lower t (mid s)) → r ≡ tops b ts (i / 2) → y ∷ r ≡ tops (s ∷ b) (t ∷ ts) i
-unfolding tops
-tops_more s b t ts i y r ey er = ap₂ {C = List Float} (λ (u : Float) (v : List Float). u ∷ v) ey er
-
-pub lows_none : (ls : List Float) (i : ℕ) → [] ≡ lows [] ls i
-unfolding lows
-lows_none ls i = refl
-
-pub tops_none : (ts : List Float) (i : ℕ) → [] ≡ tops [] ts i
-unfolding tops
-tops_none ts i = refl
-
-pub whole_is : (b : List Side) (t : Float) → t ≡ nan → bounding (map (λ (s : Side). s.corner) b) (map (λ (s : Side). t) b) (map far b) ≡ whole b
-unfolding whole bounding
-whole_is [] t e = refl
-whole_is (s ∷ b) t e = ap₂ (λ (u : Float) (v : List Bound). record { low = s.corner; top = u; edge = far s } ∷ v) e (whole_is b t e)
-
-pub lies_more : (l t e v : Float) (ls ts es vs : List Float) (x y : Bool) → x ≡ (le l v && le v e) && not (le t v) → y ≡ lies (bounding ls ts es) vs → x && y ≡ lies (bounding (l ∷ ls) (t ∷ ts) (e ∷ es)) (v ∷ vs)
-unfolding lies bounding on_each keeps
-lies_more l t e v ls ts es vs x y ex ey = ap₂ (λ (a b : Bool). a && b) ex ey
-
-pub lies_last : (l t e v : Float) (x : Bool) → x ≡ (le l v && le v e) && not (le t v) → x ≡ lies (bounding (l ∷ []) (t ∷ []) (e ∷ [])) (v ∷ [])
-unfolding lies bounding on_each keeps
-lies_last l t e v x ex = ex ∙ sym (and_true ((le l v && le v e) && not (le t v)))
 
 -- a boundary, one axis at a time
 pub accept_more : (s : Side) (b : List Side) (x y : Bool) → x ≡ bounded s.corner && (bounded s.extent && le plus_zero s.extent) → y ≡ acceptable b → x && y ≡ acceptable (s ∷ b)

@@ -141,9 +141,9 @@ module _ (k : Kind) (s : Pieces) (m : ℕ) (g : ℕ → List Float) (h : ℕ →
   taken_on c n i vs mark lt ev em b =
       subst (Bulking k s row c n) (left_next i m (λ i. record { at = g i; payload = h i }) lt ∙ ap₂ {C = List Point} (λ p ps. p ∷ ps) (ap₂ {C = Point} (λ a b. record { at = a; payload = b }) (sym ev) (sym em)) (ap (λ (j : ℕ). drop j row) (sym (add-one i)))) b
 
-  pub bulk_next : (c c' : Pieces) (n r i : ℕ) (vs : List Float) (mark : ℕ) → Bulking k s row c n (drop i row) → i < m → vs ≡ g i → mark ≡ h i → DoesHeld k (Insert (record { at = vs; payload = mark })) c c' r 0 → r ≤ 1
-      → Bulking k s row c' (n + (1 - r)) (drop (i + 1) row)
-  bulk_next c c' n r i vs mark b lt ev em ins le = bulking_next k s row c c' n r (record { at = vs; payload = mark }) (drop (i + 1) row) (taken_on c n i vs mark lt ev em b) ins le
+  pub bulk_next : (c c' : Pieces) (n n' r i : ℕ) (vs : List Float) (mark : ℕ) → Bulking k s row c n (drop i row) → i < m → vs ≡ g i → mark ≡ h i → DoesHeld k (Insert (record { at = vs; payload = mark })) c c' r 0 → r ≤ 1
+      → n' ≡ n + (1 - r) → Bulking k s row c' n' (drop (i + 1) row)
+  bulk_next c c' n n' r i vs mark b lt ev em ins le en = subst (λ (j : ℕ). Bulking k s row c' j (drop (i + 1) row)) (sym en) (bulking_next k s row c c' n r (record { at = vs; payload = mark }) (drop (i + 1) row) (taken_on c n i vs mark lt ev em b) ins le)
 
   pub bulk_stop : (c c' : Pieces) (n r i : ℕ) (vs : List Float) (mark : ℕ) → Bulking k s row c n (drop i row) → i < m → vs ≡ g i → mark ≡ h i → DoesHeld k (Insert (record { at = vs; payload = mark })) c c' r 0 → 1 < r
       → DoesHeld k (Bulk row) s c' r n

@@ -8,7 +8,7 @@ use Prim.Native.Nat.{ℕ, zero, suc, ◌+◌, ◌-◌, ◌*◌, ◌<◌, ◌≤�
 use native.Mathlib.Omega.{arith}
 use native.Mathlib.Numerals.{add-one, sub-one}
 use lib.Dec.{T, eqb, ltb}
-use borrow.Author.Tests.{not-true, not-false, eq-eqb, eqb-true, ltb-true, ltb-false}
+use borrow.Author.Tests.{not-true, not-false, eq-eqb, eqb-true, eqb-false, ne_eqb, ltb-true, ltb-false}
 use lib.ListN.{length, get_or, length-set}
 use Rattle.model.specs.Boxes.{Side, part}
 use Rattle.model.specs.Trees.{Point}
@@ -31,9 +31,6 @@ use Rattle.trees.proofs.Tests.{no_true}
 unfoldable pub counts : (ways : ℕ) → List ℕ → ℕ → (c some : ℕ) → ℕ
 counts ways n k c zero = 0
 counts ways n k c (suc some) = get_or n (4 * kid ways k c + 3) 0 + counts ways n k (suc c) some
-
-pub counts_start : (ways : ℕ) (n : List ℕ) (k : ℕ) → counts ways n k 0 (ways - 0) ≡ counts ways n k 0 ways
-counts_start ways n k = ap (counts ways n k 0) {x = ways - 0} {y = ways} (omega arith)
 
 pub counts_step : (ways : ℕ) (n : List ℕ) (k c : ℕ) → c < ways → counts ways n k c (ways - c) ≡ get_or n (4 * kid ways k c + 3) 0 + counts ways n k (c + 1) (ways - (c + 1))
 unfolding counts
@@ -68,13 +65,13 @@ module _ (pt : ℕ → Point) (x : List ℕ) (a : List Bound) (h last v : ℕ) w
     pub same : length now ≡ length m
     pub on : length m ≡ length x → (m' : List ℕ) (r : Bool) → Walks (after x) (IsListed pt x a) (ends last) now q b left m' r → Walks (after x) (IsListed pt x a) (ends last) m h 0 v m' r
 
-  pub listing_start : (m : List ℕ) → Listing m m h 0 v
-  listing_start m = record { same = refl; on = λ e m' r w. w }
+  pub listing_start : (m : List ℕ) (left : ℕ) → left ≡ v → Listing m m h 0 left
+  listing_start m left el = record { same = refl; on = λ e m' r w. subst (λ (k : ℕ). Walks (after x) (IsListed pt x a) (ends last) m h 0 k m' r) el w }
 
   module _ (m now : List ℕ) (q b left : ℕ) (g : Listing m now q b left) where
-    pub listing_over : (m' : List ℕ) → q ≢ 0 → left ≡ 0 → ListChecks m m' false
+    pub listing_short : q ≡ 0 → left ≢ 0 → ListChecks m now false
     unfolding ListChecks
-    listing_over m' z e s = g.on s m' false (walks_over _ _ _ now q b left m' z e)
+    listing_short z e s = g.on s now false (walks_end _ _ _ now q b left false z (sym (ap (λ (t : Bool). t && eqb b last) (ne_eqb left 0 e))))
 
     pub listing_met : (now' m' : List ℕ) (t : Bool) → q ≢ 0 → Claims now now' q t → not t ≡ true → ListChecks m m' false
     unfolding ListChecks
@@ -84,18 +81,22 @@ module _ (pt : ℕ → Point) (x : List ℕ) (a : List Bound) (h last v : ℕ) w
     unfolding ListChecks
     listing_out m' t z et e s = g.on s m' false (walks_bad _ _ _ now q b left m' z (λ o. subst T (sym et ∙ not-true t e) o.1))
 
-    pub listing_step : (now' : List ℕ) (q' : ℕ) (t y : Bool) → q ≢ 0 → left ≢ 0 → Claims now now' q t → not t ≡ false → y ≡ lies a (pt q).at → not y ≡ false → q' ≡ get_or x q 0 → Listing m now' q' q (left - 1)
-    listing_step now' q' t y z nl c et ey ny en =
+    pub listing_step : (now' : List ℕ) (q' left' : ℕ) (t y : Bool) → q ≢ 0 → left ≡ suc left' → Claims now now' q t → not t ≡ false → y ≡ lies a (pt q).at → not y ≡ false → q' ≡ get_or x q 0 → Listing m now' q' q left'
+    listing_step now' q' left' t y z el c et ey ny en =
         let c1 : Claims now now' q true = subst (λ (u : Bool). Claims now now' q u) (not-false t et) c in
         let s = c1.sure refl in
         record {
           same = ap length s.2 ∙ length-set now q 1 ∙ g.same;
-          on = λ e m' r w. g.on e m' r (walks_step _ _ _ now q b left now' q' (left - 1) m' r z (omega (arith, s.0, g.same, e), subst T (sym (sym ey ∙ not-false y ny)) tt) c1 en (omega arith) w);
+          on = λ e m' r w. g.on e m' r (walks_step _ _ _ now q b left now' q' left' m' r z (omega (arith, s.0, g.same, e), subst T (sym (sym ey ∙ not-false y ny)) tt) c1 en el w);
         }
 
-    pub listing_end : q ≡ 0 → ListChecks m now (eqb left 0 && eqb b last)
+    pub listing_end : left ≡ 0 → ListChecks m now (eqb q 0 && eqb b last)
     unfolding ListChecks
-    listing_end z e = g.on e now (eqb left 0 && eqb b last) (walks_end _ _ _ now q b left (eqb left 0 && eqb b last) z refl)
+    listing_end e s = g.on s now (eqb q 0 && eqb b last) (by (eqb q 0) (eqb-true q 0) (eqb-false q 0))
+      where
+        by : (t : Bool) → (t ≡ true → q ≡ 0) → (t ≡ false → q ≢ 0) → Walks (after x) (IsListed pt x a) (ends last) now q b left now (t && eqb b last)
+        by true f h = walks_end _ _ _ now q b left (eqb b last) (f refl) (sym (ap (λ (t : Bool). t && eqb b last) (eq-eqb left 0 e)))
+        by false f h = walks_over _ _ _ now q b left now (h refl) e
 
 module _ (ways cap : ℕ) (pt : ℕ → Point) (n x : List ℕ) where
   -- ---- what is asked of a tree

@@ -39,6 +39,11 @@ unfolding Noting
 noting_end whole out n now m w = w now m refl (notes_none now m)
 
 -- ---- a chain, one place at a time
+pub chain_none : (left : ℕ) (x : List ℕ) (q : ℕ) → left ≡ 0 → chain left x q ≡ []
+unfolding chain
+chain_none zero x q e = refl
+chain_none (suc left) x q e = absurd (omega (arith, e))
+
 pub chain_stop : (left : ℕ) (x : List ℕ) (q : ℕ) → q ≡ 0 → chain left x q ≡ []
 unfolding chain
 chain_stop zero x q e = refl
@@ -55,46 +60,32 @@ unfoldable pub passing : (ℕ → Bool) → ℕ → List ℕ → ℕ → List �
 unfolding keep chain
 passing f left x q = keep f (chain left x q)
 
-pub passing_none : (f : ℕ → Bool) (x : List ℕ) (q : ℕ) → passing f 0 x q ≡ []
-unfolding passing keep chain
-passing_none f x q = refl
-
-pub passing_stop : (f : ℕ → Bool) (left : ℕ) (x : List ℕ) (q : ℕ) → q ≡ 0 → passing f left x q ≡ []
-unfolding passing keep
-passing_stop f left x q e = ap (keep f) (chain_stop left x q e)
-
-pub passing_step : (f : ℕ → Bool) (left : ℕ) (x : List ℕ) (q : ℕ) → 0 < left → q ≢ 0 → passing f left x q ≡ cond (f q) (q ∷ []) [] ++ passing f (left - 1) x (get_or x q 0)
-unfolding passing keep
-passing_step f left x q h z = ap (keep f) (chain_step left x q h z) ∙ by (f q)
-  where
-    by : (t : Bool) → elim t as (λ u. List ℕ) [ true ↦ q ∷ keep f (chain (left - 1) x (get_or x q 0)) | false ↦ keep f (chain (left - 1) x (get_or x q 0)) ] ≡ cond t (q ∷ []) [] ++ keep f (chain (left - 1) x (get_or x q 0))
-    by true = refl
-    by false = refl
-
 -- ---- the loop over a list
-pub record Listing (f : ℕ → Bool) (x : List ℕ) (fuel h : ℕ) (out : List ℕ) (n : ℕ) (now : List ℕ) (left q m : ℕ) : Type 0 where
+pub record Listing (f : ℕ → Bool) (l : List ℕ) (out : List ℕ) (n : ℕ) (left now : List ℕ) (m : ℕ) : Type 0 where
   pub same : length now ≡ length out
-  pub noting : Noting (passing f fuel x h) out n (passing f left x q) now m
+  pub noting : Noting (keep f l) out n (keep f left) now m
 
-module _ (f : ℕ → Bool) (x : List ℕ) (fuel h : ℕ) (out : List ℕ) (n : ℕ) where
-  pub listing_start : Listing f x fuel h out n out fuel h n
-  listing_start = record { same = refl; noting = noting_start (passing f fuel x h) out n }
+module _ (f : ℕ → Bool) (l : List ℕ) (out : List ℕ) (n : ℕ) where
+  pub listing_start : (left : List ℕ) → left ≡ l → Listing f l out n left out n
+  listing_start left e = subst (λ (r : List ℕ). Listing f l out n r out n) (sym e) (record { same = refl; noting = noting_start (keep f l) out n })
 
-  pub listing_step : (now : List ℕ) (left q m : ℕ) (now' : List ℕ) (q' m' : ℕ) (hit : Bool) → Listing f x fuel h out n now left q m → 0 < left → q ≢ 0 → hit ≡ f q → length now' ≡ length now
-      → Notes (cond hit (q ∷ []) []) now m now' m' → q' ≡ get_or x q 0 → Listing f x fuel h out n now' (left - 1) q' m'
-  listing_step now left q m now' q' m' hit w hl hq ey e a eq = record {
+  pub listing_step : (old left now : List ℕ) (q m : ℕ) (now' : List ℕ) (m' : ℕ) (hit : Bool) → Listing f l out n old now m → old ≡ q ∷ left → hit ≡ f q → length now' ≡ length now
+      → Notes (cond hit (q ∷ []) []) now m now' m' → Listing f l out n left now' m'
+  unfolding keep
+  listing_step old left now q m now' m' hit w eo ey e a = record {
     same = e ∙ w.same;
-    noting = subst (λ (p : ℕ). Noting (passing f fuel x h) out n (passing f (left - 1) x p) now' m') (sym eq)
-        (noting_step (passing f fuel x h) out n (cond (f q) (q ∷ []) []) (passing f (left - 1) x (get_or x q 0)) now m now' m' e
-        (subst (λ (l : List ℕ). Noting (passing f fuel x h) out n l now m) (passing_step f left x q hl hq) w.noting)
-        (subst (λ (t : Bool). Notes (cond t (q ∷ []) []) now m now' m') ey a));
+    noting = noting_step (keep f l) out n (cond (f q) (q ∷ []) []) (keep f left) now m now' m' e
+        (subst (λ (k : List ℕ). Noting (keep f l) out n k now m) (ap (keep f) eo ∙ by (f q)) w.noting)
+        (subst (λ (t : Bool). Notes (cond t (q ∷ []) []) now m now' m') ey a);
   }
+    where
+      by : (t : Bool) → elim t as (λ u. List ℕ) [ true ↦ q ∷ keep f left | false ↦ keep f left ] ≡ cond t (q ∷ []) [] ++ keep f left
+      by true = refl
+      by false = refl
 
-  pub listing_stop : (now : List ℕ) (left q m all : ℕ) → Listing f x fuel h out n now left q m → q ≡ 0 → all ≡ fuel → Notes (passing f all x h) out n now m
-  listing_stop now left q m all w e ea = subst (λ (j : ℕ). Notes (passing f j x h) out n now m) (sym ea) (noting_end _ out n now m (subst (λ (l : List ℕ). Noting (passing f fuel x h) out n l now m) (passing_stop f left x q e) w.noting))
-
-  pub listing_end : (now : List ℕ) (left q m all : ℕ) → Listing f x fuel h out n now left q m → left ≡ 0 → all ≡ fuel → Notes (passing f all x h) out n now m
-  listing_end now left q m all w e ea = subst (λ (j : ℕ). Notes (passing f j x h) out n now m) (sym ea) (noting_end _ out n now m (subst (λ (l : List ℕ). Noting (passing f fuel x h) out n l now m) (ap (λ (j : ℕ). passing f j x q) e ∙ passing_none f x q) w.noting))
+  pub listing_end : (old now : List ℕ) (m : ℕ) → Listing f l out n old now m → old ≡ [] → Notes (keep f l) out n now m
+  unfolding keep
+  listing_end old now m w e = noting_end _ out n now m (subst (λ (k : List ℕ). Noting (keep f l) out n k now m) (ap (keep f) e) w.noting)
 
 -- what a test said, where the code asks for its contrary
 pub said_no : (a b : Bool) → a ≡ b → not a ≡ true → b ≡ false

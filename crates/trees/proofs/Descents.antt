@@ -23,7 +23,6 @@ use Rattle.pool.specs.Worlds.{RepLeaf, Rep}
 use Rattle.pool.specs.Writes.{kid}
 use Rattle.pool.proofs.Erase.{erase_flat}
 use Rattle.pool.proofs.Read.{list_is}
-use Rattle.trees.proofs.Collects.{chain_step, chain_stop}
 use Rattle.pool.proofs.Lists.{ifz-no, ifz-yes, sum_at}
 
 -- a node with its box and the levels below it
@@ -101,24 +100,27 @@ unfoldable pub together : (ℕ → ℕ) → ℕ → ℕ → List ℕ → ℕ →
 unfolding every chain
 together f c left x q = every (λ p. eqb (f p) c) (chain left x q)
 
-module _ (f : ℕ → ℕ) (c : ℕ) (x : List ℕ) where
-  pub together_stop : (left q : ℕ) → q ≡ 0 → together f c left x q ≡ true
-  unfolding together every
-  together_stop left q e = ap (every (λ p. eqb (f p) c)) (chain_stop left x q e)
+module _ (f : ℕ → ℕ) (c : ℕ) where
+  -- whether all of these go to child c
+  unfoldable pub alike : List ℕ → Bool
+  unfolding every
+  alike l = every (λ p. eqb (f p) c) l
 
-  pub together_end : (left q : ℕ) → left ≡ 0 → together f c left x q ≡ true
-  unfolding together every chain
-  together_end left q e = ap (λ (j : ℕ). every (λ p. eqb (f p) c) (chain j x q)) e
+  pub alike_start : (x : List ℕ) (n h : ℕ) (l : List ℕ) → l ≡ chain n x h → alike l ≡ together f c n x h
+  unfolding alike together
+  alike_start x n h l e = ap alike e
 
-  pub together_no : (left q t : ℕ) → 0 < left → q ≢ 0 → t ≡ f q → t ≢ c → together f c left x q ≡ false
-  unfolding together every
-  together_no left q t h nz e ne = ap (every (λ p. eqb (f p) c)) (chain_step left x q h nz) ∙ ap (λ (b : Bool). b && every (λ p. eqb (f p) c) (chain (left - 1) x (get_or x q 0))) (ap (λ (u : ℕ). eqb u c) (sym e) ∙ ne_eqb t c ne)
+  pub alike_end : (old : List ℕ) → old ≡ [] → alike old ≡ true
+  unfolding alike every
+  alike_end old e = ap alike e
 
-  pub together_next : (left q q' t : ℕ) → 0 < left → q ≢ 0 → t ≡ f q → t ≡ c → q' ≡ get_or x q 0 → together f c left x q ≡ together f c (left - 1) x q'
-  unfolding together every
-  together_next left q q' t h nz e ec eq =
-      ap (every (λ p. eqb (f p) c)) (chain_step left x q h nz) ∙ ap (λ (b : Bool). b && every (λ p. eqb (f p) c) (chain (left - 1) x (get_or x q 0))) (ap (λ (u : ℕ). eqb u c) (sym e) ∙ eq-eqb t c ec)
-      ∙ ap (λ (p : ℕ). every (λ p. eqb (f p) c) (chain (left - 1) x p)) (sym eq)
+  pub alike_no : (old left : List ℕ) (q t : ℕ) → old ≡ q ∷ left → t ≡ f q → t ≢ c → alike old ≡ false
+  unfolding alike every
+  alike_no old left q t eo e ne = ap alike eo ∙ ap (λ (b : Bool). b && alike left) (ap (λ (u : ℕ). eqb u c) (sym e) ∙ ne_eqb t c ne)
+
+  pub alike_next : (old left : List ℕ) (q t : ℕ) → old ≡ q ∷ left → t ≡ f q → t ≡ c → alike old ≡ alike left
+  unfolding alike every
+  alike_next old left q t eo e ec = ap alike eo ∙ ap (λ (b : Bool). b && alike left) (ap (λ (u : ℕ). eqb u c) (sym e) ∙ eq-eqb t c ec)
 
 every_at : (pt : ℕ → Point) (b : List Side) (c : ℕ) (l : List ℕ) → every (λ p. eqb (route b (pt p).at) c) l ≡ every (goes b c) (map pt l)
 unfolding every
@@ -164,19 +166,19 @@ module _ (cap : ℕ) (pt : ℕ → Point) (v : List Float) (n x : List ℕ) (i :
     pub few : more + left ≡ d
     pub counts : (m : ℕ) (l : List ℕ) → RepLeaf n x i l → ((p : ℕ) → occ p l ≤ 1) → cap ≤ length l → more + splits cap left e (asked m) (map pt l) ≡ splits cap d b (asked m) (map pt l)
 
-  pub counting_start : (d : ℕ) (b : List Side) → Counting d b d b 0
-  counting_start d b = record { few = omega arith; counts = λ m l r u h. omega arith }
+  pub counting_start : (d : ℕ) (b : List Side) (left : ℕ) → left ≡ d → Counting d b left b 0
+  counting_start d b left z = subst (λ (j : ℕ). Counting d b j b 0) (sym z) (record { few = omega arith; counts = λ m l r u h. omega arith })
 
   same_way : (b : List Side) (c h : ℕ) (t : Bool) (m : ℕ) (l : List ℕ) → RepLeaf n x i l → ((p : ℕ) → occ p l ≤ 1) → h ≡ get_or n (4 * i + 1) 0 → c ≡ route b v → t ≡ together (λ p. route b (pt p).at) c (length x) x h → t ≡ every (goes b (route b v)) (map pt l)
   unfolding together
   same_way b c h t m l r u eh ec e = e ∙ ap₂ (λ (j : ℕ) (k : List ℕ). every (λ p. eqb (route b (pt p).at) j) k) ec (ap (chain (length x) x) eh ∙ list_is n x i l r u) ∙ every_at pt b (route b v) l
 
-  pub counting_on : (d : ℕ) (b : List Side) (left : ℕ) (e e' : List Side) (more c h : ℕ) (t : Bool) → Counting d b left e more → 0 < left → h ≡ get_or n (4 * i + 1) 0 → c ≡ route e v → t ≡ together (λ p. route e (pt p).at) c (length x) x h → t ≡ true → e' ≡ part e c
-      → Counting d b (left - 1) e' (more + 1)
-  counting_on d b left e e' more c h t q hl eh ec et y ee = record {
+  pub counting_on : (d : ℕ) (b : List Side) (left left' : ℕ) (e e' : List Side) (more c h : ℕ) (t : Bool) → Counting d b left e more → 0 < left → h ≡ get_or n (4 * i + 1) 0 → c ≡ route e v → t ≡ together (λ p. route e (pt p).at) c (length x) x h → t ≡ true → e' ≡ part e c
+      → left' ≡ left - 1 → Counting d b left' e' (more + 1)
+  counting_on d b left left' e e' more c h t q hl eh ec et y ee z = subst (λ (j : ℕ). Counting d b j e' (more + 1)) (sym z) (record {
     few = omega (arith, q.few, hl);
     counts = λ m l r u f. omega (arith, q.counts m l r u f, splits_on cap (asked m) (map pt l) (omega (arith, f, length-map l pt)) left e e' hl (sym (same_way e c h t m l r u eh ec et) ∙ y) (ee ∙ ap (part e) ec));
-  }
+  })
 
   pub counting_apart : (d : ℕ) (b : List Side) (left : ℕ) (e : List Side) (more c h k : ℕ) (t : Bool) → Counting d b left e more → 0 < left → h ≡ get_or n (4 * i + 1) 0 → c ≡ route e v → t ≡ together (λ p. route e (pt p).at) c (length x) x h → t ≡ false
       → k ≡ get_or n (4 * i + 3) 0 → cap ≤ k → Needs d b (more + 1)
@@ -185,11 +187,8 @@ module _ (cap : ℕ) (pt : ℕ → Point) (v : List Float) (n x : List ℕ) (i :
       let g : cap ≤ length l = omega (arith, ek, f, r.4) in
       omega (arith, q.counts m l r u g, splits_apart cap (asked m) (map pt l) (omega (arith, g, length-map l pt)) left e hl (sym (same_way e c h t m l r u eh ec et) ∙ y))
 
-  pub counting_end : (d : ℕ) (b : List Side) (left : ℕ) (e : List Side) (more k : ℕ) → Counting d b left e more → left ≡ 0 → k ≡ get_or n (4 * i + 3) 0 → cap ≤ k → Needs d b more
+  pub counting_end : (d : ℕ) (b : List Side) (left : ℕ) (e : List Side) (more all k : ℕ) → Counting d b left e more → left ≡ 0 → all ≡ more → k ≡ get_or n (4 * i + 3) 0 → cap ≤ k → Needs d b all
   unfolding Needs
-  counting_end d b left e more k q z ek f m l r u =
+  counting_end d b left e more all k q z y ek f m l r u =
       let g : cap ≤ length l = omega (arith, ek, f, r.4) in
-      omega (arith, q.counts m l r u g, splits_none cap (asked m) (map pt l) left e z)
-
-pub together_whole : (f : ℕ → ℕ) (c fuel all : ℕ) (x : List ℕ) (h : ℕ) (t : Bool) → all ≡ fuel → t ≡ together f c fuel x h → t ≡ together f c all x h
-together_whole f c fuel all x h t e q = q ∙ ap (λ (j : ℕ). together f c j x h) (sym e)
+      omega (arith, y, q.counts m l r u g, splits_none cap (asked m) (map pt l) left e z)

@@ -3,19 +3,18 @@ use mathlib.Core.Path.{◌≡◌, refl, ap, sym, ◌∙◌}
 use mathlib.Core.Logic.{◌≢◌}
 use mathlib.Core.Bool.{Bool, true, false, not, ◌&&◌}
 use mathlib.Core.List.{List, [], ◌∷◌, ◌++◌, map}
-use Prim.Native.Nat.{ℕ, ◌-◌, ◌<◌}
+use Prim.Native.Nat.{zero, suc, ℕ}
 use native.Mathlib.Omega.{arith}
 use lib.Dec.{eqb}
 use borrow.Author.Tests.{eq-eqb, ne_eqb}
 use lib.Ieee.{Float}
-use lib.ListN.{get_or}
+use lib.ListN.{length}
 use Rattle.model.specs.Boxes.{same_place}
 use Rattle.model.specs.Trees.{Point, same}
 use Rattle.model.proofs.Short.{filled, first, without_s}
 use Rattle.pool.specs.Lists.{occ, last_or}
 use Rattle.pool.specs.Read.{chain}
 use Rattle.pool.proofs.Lists.{is_eq}
-use Rattle.trees.proofs.Collects.{chain_step, chain_stop}
 use Rattle.trees.proofs.Tests.{and_false, and_true}
 
 -- a place or 0, and the one before it or 0
@@ -28,25 +27,24 @@ seek f [] z = record { place = 0; before = z }
 seek f (q ∷ l) z = elim (f q) [ true ↦ record { place = q; before = z } | false ↦ seek f l q ]
 
 -- ---- the loop
-pub seek_stop : (f : ℕ → Bool) (left : ℕ) (x : List ℕ) (q z : ℕ) → q ≡ 0 → seek f (chain left x q) z ≡ record { place = 0; before = z }
+pub seek_end : (f : ℕ → Bool) (old : List ℕ) (z : ℕ) → old ≡ [] → (seek f old z).place ≡ 0
 unfolding seek
-seek_stop f left x q z e = ap (λ (l : List ℕ). seek f l z) (chain_stop left x q e)
+seek_end f old z e = ap (λ (l : List ℕ). (seek f l z).place) e
 
-pub seek_end : (f : ℕ → Bool) (left : ℕ) (x : List ℕ) (q z : ℕ) → left ≡ 0 → seek f (chain left x q) z ≡ record { place = 0; before = z }
-unfolding seek chain
-seek_end f left x q z e = ap (λ (j : ℕ). seek f (chain j x q) z) e
-
-seek_test : (f : ℕ → Bool) (left : ℕ) (x : List ℕ) (q z : ℕ) (t : Bool) → 0 < left → q ≢ 0 → t ≡ f q → seek f (chain left x q) z ≡ elim t as (λ u. Place) [ true ↦ record { place = q; before = z } | false ↦ seek f (chain (left - 1) x (get_or x q 0)) q ]
+pub seek_hit : (f : ℕ → Bool) (old left : List ℕ) (q z : ℕ) (t : Bool) → old ≡ q ∷ left → t ≡ f q → t ≡ true → record { place = q; before = z } ≡ seek f old z
 unfolding seek
-seek_test f left x q z t h nz e = ap (λ (l : List ℕ). seek f l z) (chain_step left x q h nz) ∙ ap (λ (b : Bool). elim b as (λ u. Place) [ true ↦ record { place = q; before = z } | false ↦ seek f (chain (left - 1) x (get_or x q 0)) q ]) (sym e)
+seek_hit f old left q z t eo e y = sym (ap (λ (l : List ℕ). seek f l z) eo ∙ ap (λ (b : Bool). elim b as (λ u. Place) [ true ↦ record { place = q; before = z } | false ↦ seek f left q ]) (sym e ∙ y))
 
-pub seek_hit : (f : ℕ → Bool) (left : ℕ) (x : List ℕ) (q z : ℕ) (t : Bool) → 0 < left → q ≢ 0 → t ≡ f q → t ≡ true → seek f (chain left x q) z ≡ record { place = q; before = z }
-seek_hit f left x q z t h nz e y = seek_test f left x q z t h nz e ∙ ap (λ (b : Bool). elim b as (λ u. Place) [ true ↦ record { place = q; before = z } | false ↦ seek f (chain (left - 1) x (get_or x q 0)) q ]) y
+pub seek_next : (f : ℕ → Bool) (old left : List ℕ) (q z : ℕ) (t : Bool) → old ≡ q ∷ left → t ≡ f q → t ≡ false → seek f left q ≡ seek f old z
+unfolding seek
+seek_next f old left q z t eo e y = sym (ap (λ (l : List ℕ). seek f l z) eo ∙ ap (λ (b : Bool). elim b as (λ u. Place) [ true ↦ record { place = q; before = z } | false ↦ seek f left q ]) (sym e ∙ y))
 
-pub seek_next : (f : ℕ → Bool) (left : ℕ) (x : List ℕ) (q z q' : ℕ) (t : Bool) → 0 < left → q ≢ 0 → t ≡ f q → t ≡ false → q' ≡ get_or x q 0 → seek f (chain left x q) z ≡ seek f (chain (left - 1) x q') q
-seek_next f left x q z q' t h nz e y eq =
-    seek_test f left x q z t h nz e ∙ ap (λ (b : Bool). elim b as (λ u. Place) [ true ↦ record { place = q; before = z } | false ↦ seek f (chain (left - 1) x (get_or x q 0)) q ]) y
-    ∙ ap (λ (p : ℕ). seek f (chain (left - 1) x p) q) (sym eq)
+-- no place of a chain is 0
+pub chain_some : (n : ℕ) (x : List ℕ) (h q : ℕ) (l : List ℕ) → chain n x h ≡ q ∷ l → q ≢ 0
+unfolding chain
+chain_some zero x h q l e z = absurd (omega (arith, ap length e))
+chain_some (suc n) x zero q l e z = absurd (omega (arith, ap length e))
+chain_some (suc n) x (suc h) q l e z = let k : suc h ≡ q = cc in absurd (omega (arith, k, z))
 
 -- ---- by the model's words: the first equal point, and the list without it
 module _ (pt : ℕ → Point) (p : Point) where
@@ -80,10 +78,6 @@ module _ (pt : ℕ → Point) (p : Point) where
           → filled {A = Point} (elim t as (λ u. List Point) [ true ↦ pt q ∷ [] | false ↦ first p (map pt l) ]) ≡ not (eqb (elim t as (λ u. Place) [ true ↦ record { place = q; before = z } | false ↦ seek equal l q ]).place 0)
       go true e = ap not (sym (ne_eqb q 0 (λ k. absurd (omega (arith, o, is_eq 0 q (sym k))))))
       go false e = e
-
--- ---- as the code has it
-pub seek_whole : (f : ℕ → Bool) (fuel all : ℕ) (x : List ℕ) (h : ℕ) (s : Place) → all ≡ fuel → s ≡ seek f (chain fuel x h) 0 → s ≡ seek f (chain all x h) 0
-seek_whole f fuel all x h s e q = q ∙ ap (λ (j : ℕ). seek f (chain j x h) 0) (sym e)
 
 -- the payload is asked first
 pub same_other : (v : List Float) (m k : ℕ) (q : Point) → k ≡ q.payload → k ≢ m → false ≡ same (record { at = v; payload = m }) q

@@ -1,7 +1,7 @@
--- Tests that decide, the lengths of the pieces, the boundary and a payload as they are read. Assumes nothing.
+-- Tests that decide, the lengths of the pieces, and a payload as it is read. Assumes nothing.
 use mathlib.Core.Path.{◌≡◌, refl, ap, ap₂, ◌∙◌, sym, subst}
 use mathlib.Core.Bool.{Bool, true, false, ◌&&◌}
-use mathlib.Core.List.{List, ◌∷◌, zip_with}
+use mathlib.Core.List.{List}
 use Prim.Native.Nat.{ℕ, suc, ◌+◌, ◌-◌, ◌*◌}
 use native.Mathlib.Nat.{suc-mul}
 use native.Mathlib.Numerals.{add-one}
@@ -9,12 +9,9 @@ use native.Mathlib.Omega.{arith}
 use lib.Dec.{T, eqb}
 use borrow.Author.Tests.{eqb-true, eq-eqb}
 use lib.ListN.{length, get_or}
-use lib.Ieee.{Float, binary64, of_bits}
-use Rattle.model.specs.Boxes.{Side}
 use Rattle.model.specs.Calls.{Kind, ways}
-use Rattle.words.specs.Words.{pairs}
-use Rattle.trees.specs.Points.{floats, point_at}
-use Rattle.trees.specs.Pieces.{Pieces, Fits, boundary_of, Decides}
+use Rattle.trees.specs.Points.{point_at}
+use Rattle.trees.specs.Pieces.{Pieces, Fits, Decides}
 
 pub both : (t u : Bool) → t && u ≡ true → (t ≡ true) × (u ≡ true)
 both true u h = (refl, h)
@@ -46,20 +43,9 @@ pub measured : (axes w rows : ℕ) (s : Pieces) → Measured axes w rows s (((eq
 unfolding Measured
 measured axes w rows s k ea ew em = fitting k s _ _ _ _ (omega (arith, ea)) (omega (arith, ew, em)) refl (omega (arith, ea))
 
-pub measured_as : (k : Kind) (rows : ℕ) (s : Pieces) (r : Bool) → k.most ≡ suc (ways k * rows) → Measured k.axes (ways k) rows s r → Decides r (Fits k s)
-unfolding Measured
-measured_as k rows s r em m = m k refl refl em
-
 -- where place p begins, and its payload
 pub base_is : (axes p : ℕ) → axes * p + p ≡ (axes + 1) * p
 base_is axes p = omega (arith, ap (λ (a : ℕ). a * p) (add-one axes), suc-mul axes p)
 
 pub payload_at : (axes : ℕ) (w : List ℕ) (p from r : ℕ) → from ≡ (axes + 1) * p → r ≡ get_or w (2 * from + 2 * axes) 0 → r ≡ (point_at axes w p).payload
 payload_at axes w p from r ef er = er ∙ ap (λ (k : ℕ). get_or w (2 * k + 2 * axes) 0) ef
-
--- one more float than those after it
-pub floats_more : (a : ℕ) (ns : List ℕ) (j j' : ℕ) (v : Float) (vs : List Float) → v ≡ of_bits binary64 (get_or ns j 0) → j' ≡ j + 1 → vs ≡ floats a ns j' → v ∷ vs ≡ floats (suc a) ns j
-floats_more a ns j j' v vs e ej es = ap₂ {C = List Float} (λ u us. u ∷ us) e (es ∙ ap (floats a ns) ej)
-
-pub boundary_is : (axes : ℕ) (w : List ℕ) (cs es : List Float) → cs ≡ floats axes (pairs w) 0 → es ≡ floats axes (pairs w) axes → zip_with {C = Side} (λ c e. record { corner = c; extent = e }) cs es ≡ boundary_of axes w
-boundary_is axes w cs es ec ee = ap₂ {C = List Side} (zip_with (λ c e. record { corner = c; extent = e })) ec ee

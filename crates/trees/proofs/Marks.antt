@@ -45,12 +45,6 @@ pub record Claims (m m' : List ℕ) (p : ℕ) (r : Bool) : Type 0 where
 pub claims_yes : (m : List ℕ) (p : ℕ) → p < length m → get_or m p 0 ≡ 0 → Claims m (set m p 1) p true
 claims_yes m p h e = record { sure = λ t. (h, e, refl); only = λ a b. refl }
 
-pub claims_met : (m : List ℕ) (p : ℕ) → get_or m p 0 ≢ 0 → Claims m m p false
-claims_met m p h = record { sure = λ t. no_true t; only = λ a b. absurd (h b) }
-
-pub claims_far : (m : List ℕ) (p : ℕ) → length m ≤ p → Claims m m p false
-claims_far m p h = record { sure = λ t. no_true t; only = λ a b. absurd (omega arith) }
-
 pub claims_mark : (m m' : List ℕ) (p : ℕ) → Low m → Claims m m' p true → Marked m m' (λ q. is q p)
 claims_mark m m' p h c =
     let s = c.sure refl in
@@ -67,22 +61,6 @@ claims_mark m m' p h c =
 pub record AllMet (m : List ℕ) (r : Bool) : Type 0 where
   pub sure : r ≡ true → (p : ℕ) → p ≢ 0 → p < length m → get_or m p 0 ≢ 0
   pub only : ((p : ℕ) → p ≢ 0 → p < length m → get_or m p 0 ≢ 0) → r ≡ true
-
--- those below i
-abbrev pub MetTo : List ℕ → ℕ → Type 0
-MetTo m i = (p : ℕ) → p ≢ 0 → p < i → get_or m p 0 ≢ 0
-
-pub met_start : (m : List ℕ) → MetTo m 1
-met_start m p z l = absurd (omega arith)
-
-pub met_end : (m : List ℕ) (i : ℕ) → MetTo m i → length m ≤ i → AllMet m true
-met_end m i h e = record { sure = λ t p z l. h p z (omega arith); only = λ f. refl }
-
-pub met_not : (m : List ℕ) (i : ℕ) → 1 ≤ i → i < length m → get_or m i 0 ≡ 0 → AllMet m false
-met_not m i o h e = record { sure = λ t. no_true t; only = λ f. absurd (f i (λ z. absurd (omega arith)) h e) }
-
-pub met_more : (m : List ℕ) (i : ℕ) → MetTo m i → get_or m i 0 ≢ 0 → MetTo m (i + 1)
-met_more m i h e p z l = by-eq p i (λ q. subst (λ (u : ℕ). get_or m u 0 ≢ 0) (sym q) e) (λ q. h p z (omega (arith, l, q)))
 
 -- ---- a list that is walked: `next` says what follows, every number of it is as `ok` says, and 0 ends it
 module _ (next : ℕ → ℕ) (ok : ℕ → Type 0) where

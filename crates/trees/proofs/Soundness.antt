@@ -411,9 +411,6 @@ module _ (k : Kind) (s : Pieces) (rows : ℕ) (er : k.most ≡ suc (ways k * row
   not_sane : (Sane k s → ⊥) → Decides false (Sane k s)
   not_sane f = record { sure = λ t. no_true t; only = λ q. absurd (f q) }
 
-  pub sound_lengths : (r : Bool) → Decides r (Fits k s) → not r ≡ true → Decides false (Sane k s)
-  sound_lengths r d e = not_sane (λ q. fails (d.only q.fits) (not-true r e))
-
   pub sound_boundary : (b : List Side) → b ≡ bounds → acceptable b ≡ false → Decides false (Sane k s)
   sound_boundary b eb e0 = let e : acceptable bounds ≡ false = sym (ap acceptable eb) ∙ e0 in not_sane (λ q. fails (is_true (acceptable bounds) (subst (λ (a : Plan). T (acceptable a.boundary)) q.holds.plan q.holds.sound.boundary.0)) e)
 

@@ -25,7 +25,7 @@ use Rattle.pool.specs.Trees.{leaf, branch, PTree, none, places_at}
 use Rattle.pool.specs.Worlds.{Rep}
 use Rattle.pool.specs.Writes.{kid}
 use Rattle.pool.proofs.Read.{list_is}
-use Rattle.trees.proofs.Collects.{Kids, kid_once, kids_of, chain_step, chain_stop}
+use Rattle.trees.proofs.Collects.{Kids, kid_once, kids_of}
 use Rattle.trees.proofs.Seeks.{candidate, nears, over_p, seek_p}
 
 -- ---- a table in its own order becomes another
@@ -55,46 +55,37 @@ unfoldable pub offering : ℕ → (ℕ → At ℕ) → ℕ → List ℕ → ℕ 
 unfolding offer_each chain
 offering k g left x q t = offer_each k t (map g (chain left x q))
 
-pub record Offering (k : ℕ) (g : ℕ → At ℕ) (x : List ℕ) (fuel h : ℕ) (ds : List Float) (ps : List ℕ) (n : ℕ) (nd : List Float) (np : List ℕ) (left q m : ℕ) : Type 0 where
+pub record Offering (k : ℕ) (g : ℕ → At ℕ) (l : List ℕ) (ds : List Float) (ps : List ℕ) (n : ℕ) (left : List ℕ) (nd : List Float) (np : List ℕ) (m : ℕ) : Type 0 where
   pub same_d : length nd ≡ length ds
   pub same_p : length np ≡ length ps
-  pub turning : Turning (offering (room k ds ps) g fuel x h) ds ps n (offering (room k ds ps) g left x q) nd np m
+  pub turning : Turning (λ t. offer_each (room k ds ps) t (map g l)) ds ps n (λ t. offer_each (room k ds ps) t (map g left)) nd np m
 
-offering_more : (k : ℕ) (g : ℕ → At ℕ) (left : ℕ) (x : List ℕ) (q q' : ℕ) (e : At ℕ) (t : List (At ℕ)) → 0 < left → q ≢ 0 → e ≡ g q → q' ≡ get_or x q 0 → offering k g left x q t ≡ offering k g (left - 1) x q' (offer k e t)
-unfolding offering offer_each
-offering_more k g left x q q' e t h z eg eq =
-    ap (λ (l : List ℕ). offer_each k t (map g l)) (chain_step left x q h z)
-    ∙ ap₂ (λ (a : At ℕ) (p : ℕ). offer_each k (offer k a t) (map g (chain (left - 1) x p))) (sym eg) (sym eq)
+offering_more : (k : ℕ) (g : ℕ → At ℕ) (old left : List ℕ) (q : ℕ) (e : At ℕ) (t : List (At ℕ)) → old ≡ q ∷ left → e ≡ g q → offer_each k t (map g old) ≡ offer_each k (offer k e t) (map g left)
+unfolding offer_each
+offering_more k g old left q e t eo eg = ap (λ (l : List ℕ). offer_each k t (map g l)) eo ∙ ap (λ (a : At ℕ). offer_each k (offer k a t) (map g left)) (sym eg)
 
-offering_none : (k : ℕ) (g : ℕ → At ℕ) (left : ℕ) (x : List ℕ) (q : ℕ) (t : List (At ℕ)) → q ≡ 0 → offering k g left x q t ≡ t
-unfolding offering offer_each
-offering_none k g left x q t e = ap (λ (l : List ℕ). offer_each k t (map g l)) (chain_stop left x q e)
-
-offering_zero : (k : ℕ) (g : ℕ → At ℕ) (left : ℕ) (x : List ℕ) (q : ℕ) (t : List (At ℕ)) → left ≡ 0 → offering k g left x q t ≡ t
-unfolding offering offer_each chain
-offering_zero k g left x q t e = ap (λ (j : ℕ). offer_each k t (map g (chain j x q))) e
+offering_none : (k : ℕ) (g : ℕ → At ℕ) (old : List ℕ) (t : List (At ℕ)) → old ≡ [] → offer_each k t (map g old) ≡ t
+unfolding offer_each
+offering_none k g old t e = ap (λ (l : List ℕ). offer_each k t (map g l)) e
 
 same_room : (k : ℕ) (ds nd : List Float) (ps np : List ℕ) → length nd ≡ length ds → length np ≡ length ps → room k nd np ≡ room k ds ps
 same_room k ds nd ps np a b = ap₂ (λ (i j : ℕ). min (min k 512) (min i j)) a b
 
-module _ (k : ℕ) (g : ℕ → At ℕ) (x : List ℕ) (fuel h : ℕ) (ds : List Float) (ps : List ℕ) (n : ℕ) where
-  pub offering_start : Offering k g x fuel h ds ps n ds ps fuel h n
-  offering_start = record { same_d = refl; same_p = refl; turning = turning_start _ ds ps n }
+module _ (k : ℕ) (g : ℕ → At ℕ) (l : List ℕ) (ds : List Float) (ps : List ℕ) (n : ℕ) where
+  pub offering_start : (left : List ℕ) → left ≡ l → Offering k g l ds ps n left ds ps n
+  offering_start left e = subst (λ (r : List ℕ). Offering k g l ds ps n r ds ps n) (sym e) (record { same_d = refl; same_p = refl; turning = turning_start _ ds ps n })
 
-  pub offering_step : (nd : List Float) (np : List ℕ) (left q m : ℕ) (d : Float) (nd' : List Float) (np' : List ℕ) (q' m' : ℕ) → Offering k g x fuel h ds ps n nd np left q m → 0 < left → q ≢ 0 → at d q ≡ g q
-      → length nd' ≡ length nd → length np' ≡ length np → ByModel m k d q nd np nd' np' m' → q' ≡ get_or x q 0 → Offering k g x fuel h ds ps n nd' np' (left - 1) q' m'
-  offering_step nd np left q m d nd' np' q' m' w hl hq eg a b v eq = record {
+  pub offering_step : (old left : List ℕ) (nd : List Float) (np : List ℕ) (q m : ℕ) (d : Float) (nd' : List Float) (np' : List ℕ) (m' : ℕ) → Offering k g l ds ps n old nd np m → old ≡ q ∷ left → at d q ≡ g q
+      → length nd' ≡ length nd → length np' ≡ length np → ByModel m k d q nd np nd' np' m' → Offering k g l ds ps n left nd' np' m'
+  offering_step old left nd np q m d nd' np' m' w eo eg a b v = record {
     same_d = a ∙ w.same_d;
     same_p = b ∙ w.same_p;
-    turning = turning_step _ ds ps n (offer (room k ds ps) (at d q)) _ _ nd np m nd' np' m' w.turning (λ o. offering_more (room k ds ps) g left x q q' (at d q) (entries m nd np) hl hq eg eq)
+    turning = turning_step _ ds ps n (offer (room k ds ps) (at d q)) _ _ nd np m nd' np' m' w.turning (λ o. offering_more (room k ds ps) g old left q (at d q) (entries m nd np) eo eg)
         (subst (λ (j : ℕ). InOrder (entries m nd np) → (entries m' nd' np' ≡ offer j (at d q) (entries m nd np)) × InOrder (entries m' nd' np')) (same_room k ds nd ps np w.same_d w.same_p) v);
   }
 
-  pub offering_stop : (nd : List Float) (np : List ℕ) (left q m all : ℕ) → Offering k g x fuel h ds ps n nd np left q m → q ≡ 0 → all ≡ fuel → Tables (offering (room k ds ps) g all x h) ds ps n nd np m
-  offering_stop nd np left q m all w e ea = subst (λ (j : ℕ). Tables (offering (room k ds ps) g j x h) ds ps n nd np m) (sym ea) (turning_end _ ds ps n _ nd np m w.turning (offering_none (room k ds ps) g left x q (entries m nd np) e))
-
-  pub offering_end : (nd : List Float) (np : List ℕ) (left q m all : ℕ) → Offering k g x fuel h ds ps n nd np left q m → left ≡ 0 → all ≡ fuel → Tables (offering (room k ds ps) g all x h) ds ps n nd np m
-  offering_end nd np left q m all w e ea = subst (λ (j : ℕ). Tables (offering (room k ds ps) g j x h) ds ps n nd np m) (sym ea) (turning_end _ ds ps n _ nd np m w.turning (offering_zero (room k ds ps) g left x q (entries m nd np) e))
+  pub offering_end : (old : List ℕ) (nd : List Float) (np : List ℕ) (m : ℕ) → Offering k g l ds ps n old nd np m → old ≡ [] → Tables (λ t. offer_each (room k ds ps) t (map g l)) ds ps n nd np m
+  offering_end old nd np m w e = turning_end _ ds ps n _ nd np m w.turning (offering_none (room k ds ps) g old (entries m nd np) e)
 
 -- ---- one tree
 module _ (pt : ℕ → Point) (c : List Float) (k ways : ℕ) (n x : List ℕ) where
@@ -238,13 +229,23 @@ order_at : (es : List (At ℕ)) (ds : List Float) (ps : List ℕ) (j : ℕ) → 
 order_at es ds ps j ed ep h = entry_at es j _ h ∙ ap₂ (λ (a : List Float) (b : List ℕ). at (get_or a j nan) (get_or b j 0)) (sym ed) (sym ep)
 
 -- ---- the node distances of all children, put in order
-pub nears_more : (b b' : List Side) (c : List Float) (i m : ℕ) (y : Float) (l : List Float) → y ≡ node_distance b' c → b' ≡ part b i → l ≡ nears b c (suc i) m → y ∷ l ≡ nears b c i (suc m)
+-- an array that has the distance of each child has them all in front
+pub nears_read : (b : List Side) (c : List Float) (i m : ℕ) (ds : List Float) → m ≤ length ds → ((j : ℕ) → j < m → get_or ds j nan ≡ node_distance (part b (i + j)) c) → take m ds ≡ nears b c i m
 unfolding nears
-nears_more b b' c i m y l ey eb el = ap₂ {C = List Float} (λ (u : Float) (v : List Float). u ∷ v) (ey ∙ ap (λ (n : List Side). node_distance n c) eb) el
+nears_read b c i zero ds h f = refl
+nears_read b c i (suc m) [] h f = absurd (omega arith)
+nears_read b c i (suc m) (d ∷ ds) h f =
+    ap₂ {C = List Float} (λ (u : Float) (v : List Float). u ∷ v) (f 0 (omega arith) ∙ at i (i + 0) (omega arith))
+    (nears_read b c (suc i) m ds (omega arith) (λ j l. f (suc j) (omega arith) ∙ at (suc i + j) (i + suc j) (omega arith)))
+  where
+    at : (p q : ℕ) → q ≡ p → node_distance (part b q) c ≡ node_distance (part b p) c
+    at p q e = ap (λ (n : ℕ). node_distance (part b n) c) e
 
-pub nears_none : (b : List Side) (c : List Float) (i : ℕ) → [] ≡ nears b c i 0
-unfolding nears
-nears_none b c i = refl
+pub front_of : {A : Type 0} (w : ℕ) (l r : List A) → length l ≡ w → take w (l ++ r) ≡ l
+front_of zero [] r e = refl
+front_of (suc w) [] r e = absurd (omega (arith, e))
+front_of zero (a ∷ l) r e = absurd (omega (arith, e))
+front_of (suc w) (a ∷ l) r e = ap (λ (k : List _). a ∷ k) (front_of w l r (omega (arith, e)))
 
 front_all : {A : Type 0} (vs l : List A) → length vs ≡ length l → sets l 0 vs ≡ vs
 front_all {A} vs l e = sets_front vs l (omega (arith, e)) ∙ ap (λ (r : List A). vs ++ r) (drop_of_length-le l {i = length vs} (omega (arith, e))) ∙ append-nil vs
@@ -281,3 +282,14 @@ order_entry b c w m j ds ps few h ed ep = (subst₂ (λ (d : Float) (i : ℕ). g
 
     small : get_or ps j 0 % m ≡ get_or (take w ps) j 0
     small = mod-eq_of_lt (omega (arith, few, low, get_or-take w ps j 0 h)) ∙ sym (get_or-take w ps j 0 h)
+
+-- ---- a table's own k is the one that was given
+pub model_as : (n k k' : ℕ) (d : Float) (q : ℕ) (ds : List Float) (ps : List ℕ) (ds' : List Float) (ps' : List ℕ) (r : ℕ) → k' ≡ k → ByModel n k' d q ds ps ds' ps' r → ByModel n k d q ds ps ds' ps' r
+model_as n k k' d q ds ps ds' ps' r e m = subst (λ (j : ℕ). ByModel n j d q ds ps ds' ps' r) e m
+
+pub bar_as : (k k' l : ℕ) (ds : List Float) (w : Float) → k' ≡ k → w ≡ bar (min (min k' 512) l) ds → w ≡ bar (min (min k 512) l) ds
+bar_as k k' l ds w e h = h ∙ ap (λ (j : ℕ). bar (min (min j 512) l) ds) e
+
+pub seeks_as : (pt : ℕ → Point) (c : List Float) (k k' ways : ℕ) (n x : List ℕ) (d : ℕ) (b : List Side) (i : ℕ) (ds : List Float) (ps : List ℕ) (m : ℕ) (ds' : List Float) (ps' : List ℕ) (r : ℕ)
+    → k' ≡ k → Seeks pt c k' ways n x d b i ds ps m ds' ps' r → Seeks pt c k ways n x d b i ds ps m ds' ps' r
+seeks_as pt c k k' ways n x d b i ds ps m ds' ps' r e h = subst (λ (j : ℕ). Seeks pt c j ways n x d b i ds ps m ds' ps' r) e h

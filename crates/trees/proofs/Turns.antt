@@ -1,9 +1,8 @@
 -- The routes of a list's points, noted one after the other, and the split that uses them. Assumes nothing.
-use mathlib.Core.Path.{◌≡◌, refl, ap, ap₂, sym, ◌∙◌, subst}
-use mathlib.Core.Logic.{◌≢◌}
+use mathlib.Core.Path.{◌≡◌, refl, ap, sym, ◌∙◌, subst}
 use mathlib.Core.Bool.{cond}
 use mathlib.Core.List.{List, [], ◌∷◌, map}
-use Prim.Native.Nat.{ℕ, zero, suc, ◌+◌, ◌*◌, ◌-◌, ◌^◌, ◌<◌, ◌≤◌}
+use Prim.Native.Nat.{ℕ, zero, suc, ◌+◌, ◌*◌, ◌^◌, ◌<◌, ◌≤◌}
 use native.Mathlib.Omega.{arith}
 use lib.ListN.{length, get_or, length-map, get_or-map, get_or-append}
 use lib.Seq.{sets}
@@ -20,7 +19,7 @@ use Rattle.pool.specs.Worlds.{RepLeaf}
 use Rattle.pool.specs.Writes.{Pool, turn_at}
 use Rattle.pool.proofs.Chains.{chain_short}
 use Rattle.pool.proofs.Read.{list_is}
-use Rattle.trees.proofs.Collects.{Noting, noting_end, noting_start, noting_step, chain_step, chain_stop}
+use Rattle.trees.proofs.Collects.{Noting, noting_end, noting_start, noting_step}
 use Rattle.trees.proofs.Inserts.{Turns}
 use Rattle.trees.proofs.Walks.{Notes}
 
@@ -29,35 +28,23 @@ unfoldable pub turned : (ℕ → ℕ) → ℕ → List ℕ → ℕ → List ℕ
 unfolding chain
 turned f left x q = map f (chain left x q)
 
-pub record Turning (f : ℕ → ℕ) (x : List ℕ) (fuel h : ℕ) (out : List ℕ) (n : ℕ) (now : List ℕ) (left q m : ℕ) : Type 0 where
+pub record Turning (f : ℕ → ℕ) (l : List ℕ) (out : List ℕ) (n : ℕ) (left now : List ℕ) (m : ℕ) : Type 0 where
   pub same : length now ≡ length out
-  pub noting : Noting (turned f fuel x h) out n (turned f left x q) now m
+  pub noting : Noting (map f l) out n (map f left) now m
 
-module _ (f : ℕ → ℕ) (x : List ℕ) (fuel h : ℕ) (out : List ℕ) (n : ℕ) where
-  pub turning_start : Turning f x fuel h out n out fuel h n
-  turning_start = record { same = refl; noting = noting_start (turned f fuel x h) out n }
+module _ (f : ℕ → ℕ) (l : List ℕ) (out : List ℕ) (n : ℕ) where
+  pub turning_start : (left : List ℕ) → left ≡ l → Turning f l out n left out n
+  turning_start left e = subst (λ (r : List ℕ). Turning f l out n r out n) (sym e) (record { same = refl; noting = noting_start (map f l) out n })
 
-  pub turning_step : (now : List ℕ) (left q m : ℕ) (now' : List ℕ) (q' m' t : ℕ) → Turning f x fuel h out n now left q m → 0 < left → q ≢ 0 → t ≡ f q → length now' ≡ length now
-      → Notes (t ∷ []) now m now' m' → q' ≡ get_or x q 0 → Turning f x fuel h out n now' (left - 1) q' m'
-  unfolding turned
-  turning_step now left q m now' q' m' t w hl hq et e a eq = record {
+  pub turning_step : (old left now : List ℕ) (q m : ℕ) (now' : List ℕ) (m' t : ℕ) → Turning f l out n old now m → old ≡ q ∷ left → t ≡ f q → length now' ≡ length now → Notes (t ∷ []) now m now' m' → Turning f l out n left now' m'
+  turning_step old left now q m now' m' t w eo et e a = record {
     same = e ∙ w.same;
-    noting = noting_step (turned f fuel x h) out n (t ∷ []) (turned f (left - 1) x q') now m now' m' e
-        (subst (λ (l : List ℕ). Noting (turned f fuel x h) out n l now m) (ap (map f) (chain_step left x q hl hq) ∙ ap₂ (λ (u p : ℕ). u ∷ map f (chain (left - 1) x p)) (sym et) (sym eq)) w.noting) a;
+    noting = noting_step (map f l) out n (t ∷ []) (map f left) now m now' m' e
+        (subst (λ (k : List ℕ). Noting (map f l) out n k now m) (ap (map f) eo ∙ ap (λ (u : ℕ). u ∷ map f left) (sym et)) w.noting) a;
   }
 
-  pub turning_stop : (now : List ℕ) (left q m all : ℕ) → Turning f x fuel h out n now left q m → q ≡ 0 → all ≡ fuel → Notes (turned f all x h) out n now m
-  unfolding turned
-  turning_stop now left q m all w e ea = subst (λ (j : ℕ). Notes (turned f j x h) out n now m) (sym ea) (noting_end _ out n now m (subst (λ (l : List ℕ). Noting (turned f fuel x h) out n l now m) (ap (map f) (chain_stop left x q e)) w.noting))
-
-  pub turning_end : (now : List ℕ) (left q m all : ℕ) → Turning f x fuel h out n now left q m → left ≡ 0 → all ≡ fuel → Notes (turned f all x h) out n now m
-  unfolding turned chain
-  turning_end now left q m all w e ea = subst (λ (j : ℕ). Notes (turned f j x h) out n now m) (sym ea) (noting_end _ out n now m (subst (λ (l : List ℕ). Noting (turned f fuel x h) out n l now m) (ap (λ (j : ℕ). map f (chain j x q)) e) w.noting))
-
--- one turn
-module _ (out : List ℕ) (n t : ℕ) where
-  pub turn_full : length out ≤ n → Notes (t ∷ []) out n out n
-  turn_full h = record { count = λ k. absurd (omega arith); written = λ k. absurd (omega arith) }
+  pub turning_end : (old now : List ℕ) (m : ℕ) → Turning f l out n old now m → old ≡ [] → Notes (map f l) out n now m
+  turning_end old now m w e = noting_end _ out n now m (subst (λ (k : List ℕ). Noting (map f l) out n k now m) (ap (map f) e) w.noting)
 
 get_d_any : (l : List ℕ) (k a b : ℕ) → k < length l → get_or l k a ≡ get_or l k b
 get_d_any [] k a b h = absurd (omega arith)
@@ -89,3 +76,7 @@ module _ (ways : ℕ) (pt : ℕ → Point) where
           (ap (λ (u : List ℕ). get_or u k 0) (w.written (omega (arith, lo, short, ap length (ap (map f) e), length-map l f)) ∙ ap (λ (u : List ℕ). sets out 0 (map f u)) e ∙ sets_front (map f l) out (omega (arith, lo, short, length-map l f)))
           ∙ get_or-append (map f l) _ 0 k (omega (arith, lk, length-map l f)) ∙ get_d_any (map f l) k 0 (f 0) (omega (arith, lk, length-map l f)) ∙ get_or-map f l k 0)
           (subst (λ (m : ℕ). route b (pt (get_or l k 0)).at < m) eb (route_lt b (pt (get_or l k 0)).at))
+
+-- the number of ways as the code has it
+pub parts_as : (w w' : ℕ) (pt : ℕ → Point) (b : List Side) (s r : Pool) (i g : ℕ) → w ≡ w' → Parts w pt b s r i g → Parts w' pt b s r i g
+parts_as w w' pt b s r i g e q = subst (λ (u : ℕ). Parts u pt b s r i g) e q

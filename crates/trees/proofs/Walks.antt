@@ -51,8 +51,8 @@ module _ (at : ℕ → Point) (go : List Side → Bool) (f : Point → Bool) whe
   places_walk (suc d) b (leaf l) = when (go b) _ _ (keep_at l)
   places_walk (suc d) b (branch k ts) = when (go b) _ _ (rows_at d b 0 ts (λ n t. places_walk d n t))
 
--- ---- a list of places that is noted from number n on, if there is room for all of it
-pub record Notes (l : List ℕ) (out : List ℕ) (n : ℕ) (out' : List ℕ) (r : ℕ) : Type 0 where
+-- ---- a list that is noted from number n on, if there is room for all of it
+pub record Notes {A : Type 0} (l : List A) (out : List A) (n : ℕ) (out' : List A) (r : ℕ) : Type 0 where
   pub count : n + length l ≤ length out → r ≡ n + length l
   pub written : n + length l ≤ length out → out' ≡ sets out n l
 
@@ -73,11 +73,8 @@ notes_then l m out out1 out2 n k r e a b = record {
 
 -- one place, noted or not
 module _ (out : List ℕ) (n p : ℕ) (yes : Bool) where
-  pub note_yes : yes ≡ true → Notes (cond yes (p ∷ []) []) out n (set out n p) (n + 1)
-  note_yes e = subst (λ (t : Bool). Notes (cond t (p ∷ []) []) out n (set out n p) (n + 1)) (sym e) (record { count = λ h. refl; written = λ h. refl })
-
-  pub note_full : yes ≡ true → length out ≤ n → Notes (cond yes (p ∷ []) []) out n out n
-  note_full e h = subst (λ (t : Bool). Notes (cond t (p ∷ []) []) out n out n) (sym e) (record { count = λ k. absurd (omega arith); written = λ k. absurd (omega arith) })
+  pub note_yes : (out' : List ℕ) (r : ℕ) → yes ≡ true → Notes (p ∷ []) out n out' r → Notes (cond yes (p ∷ []) []) out n out' r
+  note_yes out' r e a = subst (λ (t : Bool). Notes (cond t (p ∷ []) []) out n out' r) (sym e) a
 
   pub note_no : yes ≡ false → Notes (cond yes (p ∷ []) []) out n out n
   note_no e = subst (λ (t : Bool). Notes (cond t (p ∷ []) []) out n out n) (sym e) (notes_none out n)

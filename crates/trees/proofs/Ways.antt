@@ -6,8 +6,8 @@ use Prim.Native.Nat.{ℕ, zero, suc, ◌+◌, ◌*◌, ◌-◌, ◌<◌, ◌≤�
 use native.Mathlib.Numerals.{add-one, sub-one}
 use native.Mathlib.Omega.{arith}
 use lib.Ieee.{Float}
-use lib.ListN.{length, get_or, take, drop, drop_of_length-le, length-take}
-use lib.Seq.{drop-cons, get_or-set_other, get_or-take, take_at}
+use lib.ListN.{length, get_or, take, drop, drop_of_length-le}
+use lib.Seq.{drop-cons, get_or-set_other, take_at}
 use Rattle.model.specs.Boxes.{Side, part, route}
 use Rattle.pool.specs.Lists.{ifz}
 use Rattle.pool.specs.Writes.{counted, kid, lowered}
@@ -102,36 +102,13 @@ unfolding counted
 counted_all n [] = n
 counted_all n (i ∷ l) = counted_all (counted n i) l
 
--- what is left of the first m nodes of a path, from number j on
-pub rest_more : (path : List ℕ) (m j : ℕ) → j < m → j < length path → drop j (take m path) ≡ get_or path j 0 ∷ drop (j + 1) (take m path)
-rest_more path m j h k = drop-cons (take m path) j 0 (omega (arith, h, k, length-take m path)) ∙ ap₂ (λ (i q : ℕ). i ∷ drop q (take m path)) (get_or-take m path j 0 h) (sym (add-one j))
+pub counted_step : (path n n' : List ℕ) (j : ℕ) → j < length path → n' ≡ counted n (get_or path j 0) → counted_all n' (drop (j + 1) path) ≡ counted_all n (drop j path)
+unfolding counted_all
+counted_step path n n' j h e = rw (drop-cons path j 0 h, e, ← add-one j)
 
-pub rest_none : (path : List ℕ) (m j : ℕ) → m ≤ j → drop j (take m path) ≡ []
-rest_none path m j h = drop_of_length-le (take m path) {i = j} (omega (arith, h, length-take m path))
-
-pub rest_over : (path : List ℕ) (m j : ℕ) → length path ≤ j → drop j (take m path) ≡ []
-rest_over path m j h = drop_of_length-le (take m path) {i = j} (omega (arith, h, length-take m path))
-
-module _ (path : List ℕ) (m : ℕ) where
-  unfoldable pub CountingUp : (n₀ n : List ℕ) → ℕ → Type 0
-  unfolding counted_all
-  CountingUp n₀ n j = counted_all n (drop j (take m path)) ≡ counted_all n₀ (take m path)
-
-  pub counting_up_start : (n : List ℕ) → CountingUp n n 0
-  unfolding CountingUp counted_all
-  counting_up_start n = refl
-
-  pub counting_up_step : (n₀ n n' : List ℕ) (j : ℕ) → CountingUp n₀ n j → j < m → j < length path → n' ≡ counted n (get_or path j 0) → CountingUp n₀ n' (j + 1)
-  unfolding CountingUp counted_all
-  counting_up_step n₀ n n' j w h k e = ap (λ (u : List ℕ). counted_all u (drop (j + 1) (take m path))) e ∙ sym (ap (counted_all n) (rest_more path m j h k)) ∙ w
-
-  pub counting_up_end : (n₀ n : List ℕ) (j : ℕ) → CountingUp n₀ n j → m ≤ j → n ≡ counted_all n₀ (take m path)
-  unfolding CountingUp counted_all
-  counting_up_end n₀ n j w h = sym (ap (counted_all n) (rest_none path m j h)) ∙ w
-
-  pub counting_up_over : (n₀ n : List ℕ) (j : ℕ) → CountingUp n₀ n j → length path ≤ j → n ≡ counted_all n₀ (take m path)
-  unfolding CountingUp counted_all
-  counting_up_over n₀ n j w h = sym (ap (counted_all n) (rest_over path m j h)) ∙ w
+pub counted_end : (path n : List ℕ) (j : ℕ) → length path ≤ j → n ≡ counted_all n (drop j path)
+unfolding counted_all
+counted_end path n j h = rw (drop_of_length-le path {i = j} h)
 
 -- ---- the loop that goes down and notes
 pub record Going (ways : ℕ) (n : List ℕ) (v : List Float) (d : ℕ) (b : List Side) (i : ℕ) (out : List ℕ) (left : ℕ) (e : List Side) (at : ℕ) (now : List ℕ) (m : ℕ) : Type 0 where
@@ -140,17 +117,17 @@ pub record Going (ways : ℕ) (n : List ℕ) (v : List Float) (d : ℕ) (b : Lis
   pub noting : Noting (way ways n v d b i) out 0 (way ways n v left e at) now m
 
 module _ (ways : ℕ) (n : List ℕ) (v : List Float) (d : ℕ) (b : List Side) (i : ℕ) (out : List ℕ) where
-  pub going_start : Going ways n v d b i out d b i out 0
-  going_start = record { spot = refl; same = refl; noting = noting_start (way ways n v d b i) out 0 }
+  pub going_start : (left : ℕ) → left ≡ d → Going ways n v d b i out left b i out 0
+  going_start left z = subst (λ (j : ℕ). Going ways n v d b i out j b i out 0) (sym z) (record { spot = refl; same = refl; noting = noting_start (way ways n v d b i) out 0 })
 
-  pub going_down : (left : ℕ) (e e' : List Side) (at : ℕ) (now : List ℕ) (m : ℕ) (now' : List ℕ) (m' k c j : ℕ) → Going ways n v d b i out left e at now m → 0 < left → k ≡ get_or n (4 * at) 0 → k ≢ 0 → c ≡ route e v → j ≡ kid ways k c → e' ≡ part e c
-      → length now' ≡ length now → Notes (at ∷ []) now m now' m' → Going ways n v d b i out (left - 1) e' j now' m'
-  going_down left e e' at now m now' m' k c j w h ek nz ec ej ee l q = record {
+  pub going_down : (left left' : ℕ) (e e' : List Side) (at : ℕ) (now : List ℕ) (m : ℕ) (now' : List ℕ) (m' k c j : ℕ) → Going ways n v d b i out left e at now m → 0 < left → k ≡ get_or n (4 * at) 0 → k ≢ 0 → c ≡ route e v → j ≡ kid ways k c → e' ≡ part e c
+      → length now' ≡ length now → Notes (at ∷ []) now m now' m' → left' ≡ left - 1 → Going ways n v d b i out left' e' j now' m'
+  going_down left left' e e' at now m now' m' k c j w h ek nz ec ej ee l q z = subst (λ (u : ℕ). Going ways n v d b i out u e' j now' m') (sym z) (record {
     spot = sym (reach_down ways n v left e e' at k c j h ek nz ec ej ee) ∙ w.spot;
     same = l ∙ w.same;
     noting = noting_step (way ways n v d b i) out 0 (at ∷ []) (way ways n v (left - 1) e' j) now m now' m' l
         (subst (λ (u : List ℕ). Noting (way ways n v d b i) out 0 u now m) (way_down ways n v left e e' at k c j h ek nz ec ej ee) w.noting) q;
-  }
+  })
 
   going_stop : (left : ℕ) (e : List Side) (at : ℕ) (now : List ℕ) (m : ℕ) → Going ways n v d b i out left e at now m → way ways n v left e at ≡ [] → Notes (way ways n v d b i) out 0 now m
   going_stop left e at now m w z = noting_end (way ways n v d b i) out 0 now m (subst (λ (u : List ℕ). Noting (way ways n v d b i) out 0 u now m) z w.noting)
@@ -160,8 +137,13 @@ module _ (ways : ℕ) (n : List ℕ) (v : List Float) (d : ℕ) (b : List Side) 
   going_here left e at now m k w ek z = (sym (reach_here ways n v left e at k ek z) ∙ w.spot, going_stop left e at now m w (way_here ways n v left e at k ek z))
 
   pub going_last : (left : ℕ) (e : List Side) (at : ℕ) (now : List ℕ) (m : ℕ) → Going ways n v d b i out left e at now m → left ≡ 0
-      → (◌≡◌ {A = Spot} (record { node = at; box = e; levels = left }) (reach ways n v d b i)) × Notes (way ways n v d b i) out 0 now m
-  going_last left e at now m w z = (sym (reach_last ways n v left e at z) ∙ w.spot, going_stop left e at now m w (way_last ways n v left e at z))
+      → (◌≡◌ {A = Spot} (record { node = at; box = e; levels = 0 }) (reach ways n v d b i)) × Notes (way ways n v d b i) out 0 now m
+  going_last left e at now m w z = (ap (λ (u : ℕ). record { node = at; box = e; levels = u }) (sym z) ∙ sym (reach_last ways n v left e at z) ∙ w.spot, going_stop left e at now m w (way_last ways n v left e at z))
+
+  pub path_short : (now : List ℕ) (m : ℕ) → d ≤ length out → Notes (way ways n v d b i) out 0 now m → m ≤ d
+  path_short now m h q =
+      let s : length (way ways n v d b i) ≤ d = way_short ways n v d b i in
+      omega (arith, s, q.count (omega (arith, h, s)))
 
   -- a path with room for all of it is the way
   pub path_is : (now : List ℕ) (m : ℕ) → d ≤ length out → Notes (way ways n v d b i) out 0 now m → take m now ≡ way ways n v d b i

@@ -3,7 +3,7 @@ use Prim.Native.Nat.{ℕ, zero, suc, ◌+◌, ◌-◌, ◌≤◌, ◌<◌}
 use mathlib.Core.Path.{◌≡◌, refl, sym, ap, ap₂, ◌∙◌, subst, subst₂, subst⁻¹}
 use mathlib.Core.Bool.{Bool, true, false, not, ◌&&◌}
 use mathlib.Core.List.{List, [], ◌∷◌, ◌++◌, append-nil}
-use mathlib.Core.Option.{Option}
+use Rattle.std.specs.Prelude.{Option}
 use native.Mathlib.Nat.{sub-zero}
 use native.Mathlib.Omega.{arith}
 use lib.ListN.{length, take, drop, length-drop, length-take}
@@ -269,8 +269,3 @@ begins k of p s text out e h = (subst⁻¹ (λ (q : Place). Turned k of q s text
 pub begins_on : (p : Place) → p ≡ first → does_go_on p.next ≡ true
 unfolding does_go_on
 begins_on p e = ap (λ (q : Place). does_go_on q.next) e
-
--- written, and something comes next
-pub both : (written on g : Bool) → on ≡ g → written && on ≡ true → g ≡ true
-both true on g e h = sym e ∙ h
-both false on g e h = no h

@@ -1,6 +1,6 @@
 -- Where a program is in its input, what a turn does, and turns one after the other. Definitions only, for either program: `of` says what one record says.
 use Rattle.std.specs.Prelude.{◌≡◌, Bool, true, false, not, List, [], ◌++◌, ℕ, ◌+◌, ◌-◌, ◌≤◌, ◌<◌, eqb, length, take, drop}
-use Rattle.std.proofs.Math.Option.{Option}
+use Rattle.std.specs.Prelude.{Option}
 use Rattle.model.specs.Calls.{Call, Kind, State, broken}
 use Rattle.trees.specs.Pieces.{Pieces}
 use Rattle.record.specs.Input.{Unended, records}

@@ -1,8 +1,8 @@
 -- Laws of words in twos, and of floats in them. Assumes nothing.
-use mathlib.Core.Path.{◌≡◌, refl, ap, ◌∙◌}
+use mathlib.Core.Path.{◌≡◌, refl, ap, ap₂, sym, ◌∙◌}
 use mathlib.Core.Logic.{◌≢◌}
-use mathlib.Core.List.{List, [], ◌∷◌}
-use Prim.Native.Nat.{ℕ, zero, suc, ◌+◌, ◌*◌, ◌/◌, ◌%◌, ◌<◌, ◌≤◌}
+use mathlib.Core.List.{List, [], ◌∷◌, ◌++◌, map}
+use Prim.Native.Nat.{ℕ, zero, suc, ◌+◌, ◌*◌, ◌/◌, ◌%◌, ◌^◌, ◌<◌, ◌≤◌}
 use native.Mathlib.Omega.{arith}
 use native.Mathlib.Numerals.{add-one}
 use lib.ListN.{length, get_or, set, get_or-eq_default}
@@ -10,8 +10,12 @@ use lib.Seq.{get_or-set_same, get_or-set_other}
 use lib.Dec.{T}
 use lib.Ieee.{Float, binary64, fits, of_bits, to_bits}
 use lib.Ieee.Bits.{of_bits-to_bits}
-use Rattle.words.specs.Words.{words, pairs, set_pair}
-use Rattle.words.proofs.Words.{length_words}
+use Rattle.std.specs.Int.{w32, w64, from_le_bytes, to_le_bytes}
+use Rattle.std.specs.Simd.{first_chunks}
+use lib.Seq.{length-sets, sets}
+use Rattle.std.proofs.lemmas.List.{get_or-map}
+use Rattle.words.specs.Words.{le4, words, pairs, set_pair}
+use Rattle.words.proofs.Words.{length_words, words_sets}
 
 -- how many there are
 pub length_pairs : (w : List ℕ) → length (pairs w) ≡ length w / 2
@@ -36,17 +40,6 @@ twice_is : (i : ℕ) → twice i ≡ 2 * i
 unfolding twice
 twice_is zero = refl
 twice_is (suc i) = omega (arith, twice_is i)
-
-at_twice : (w : List ℕ) (i : ℕ) → i < length w / 2 → get_or (pairs w) i 0 ≡ get_or w (twice i) 0 + 4294967296 * get_or w (suc (twice i)) 0
-unfolding pairs twice
-at_twice [] i h = absurd (omega arith)
-at_twice (a ∷ []) i h = absurd (omega arith)
-at_twice (a ∷ b ∷ w) zero h = refl
-at_twice (a ∷ b ∷ w) (suc i) h = at_twice w i (omega arith)
-
--- a number by its words
-pub pairs_at : (w : List ℕ) (i : ℕ) → i < length w / 2 → get_or (pairs w) i 0 ≡ get_or w (2 * i) 0 + 4294967296 * get_or w (2 * i + 1) 0
-pairs_at w i h = rw (← twice_is i, add-one) (at_twice w i h)
 
 pub pairs_out : (w : List ℕ) (i : ℕ) → length w / 2 ≤ i → get_or (pairs w) i 0 ≡ 0
 pairs_out w i h = get_or-eq_default (pairs w) 0 (omega (arith, length_pairs w))
@@ -105,15 +98,57 @@ pairs_apart (a ∷ b ∷ w) (suc i) zero v h = refl
 pairs_apart (a ∷ b ∷ w) (suc i) (suc zero) v h = refl
 pairs_apart (a ∷ b ∷ w) (suc i) (suc (suc j)) v h = pairs_apart w i j v (λ e. h (omega arith))
 
--- ---- in bytes
-pub pair_loaded : (s : List ℕ) (i low high : ℕ) → i < length s / 8 → low ≡ get_or (words s) (2 * i) 0 → high ≡ get_or (words s) (2 * i + 1) 0 → low + 4294967296 * high ≡ get_or (pairs (words s)) i 0
-pair_loaded s i low high h el eh = omega (arith, el, eh, pairs_at (words s) i (omega (arith, length_words s)))
+-- ---- as the library reads and writes them, eight bytes at a time
+pub pairs_chunks : (s : List ℕ) (k : ℕ) → k ≡ length s / 8 → pairs (words s) ≡ map (from_le_bytes w64) (first_chunks 8 k s)
+unfolding words pairs
+pairs_chunks (a ∷ b ∷ c ∷ d ∷ e ∷ f ∷ g ∷ h ∷ s) zero q = absurd (omega arith)
+pairs_chunks (a ∷ b ∷ c ∷ d ∷ e ∷ f ∷ g ∷ h ∷ s) (suc k) q = ap₂ (λ n l. n ∷ l) (le8_is a b c d e f g h) (pairs_chunks s k (omega arith))
+  where
+    le8_is : (a b c d e f g h : ℕ) → le4 a b c d + 4294967296 * le4 e f g h ≡ from_le_bytes w64 (a ∷ b ∷ c ∷ d ∷ e ∷ f ∷ g ∷ h ∷ [])
+    le8_is a b c d e f g h = omega arith
+pairs_chunks [] zero q = refl
+pairs_chunks (a ∷ []) zero q = refl
+pairs_chunks (a ∷ b ∷ []) zero q = refl
+pairs_chunks (a ∷ b ∷ c ∷ []) zero q = refl
+pairs_chunks (a ∷ b ∷ c ∷ d ∷ []) zero q = refl
+pairs_chunks (a ∷ b ∷ c ∷ d ∷ e ∷ []) zero q = refl
+pairs_chunks (a ∷ b ∷ c ∷ d ∷ e ∷ f ∷ []) zero q = refl
+pairs_chunks (a ∷ b ∷ c ∷ d ∷ e ∷ f ∷ g ∷ []) zero q = refl
+pairs_chunks s (suc k) q = absurd (omega arith)
 
-pub pair_missing : (s : List ℕ) (i : ℕ) → length s / 8 ≤ i → get_or (pairs (words s)) i 0 ≡ 0
-pair_missing s i h = pairs_out (words s) i (omega (arith, length_words s))
+pub chunk_read : (s bytes : List ℕ) (cs : List (List ℕ)) (i : ℕ) → cs ≡ first_chunks 8 (length s / 8) s → i < length cs → bytes ≡ get_or cs i bytes → from_le_bytes w64 bytes ≡ get_or (pairs (words s)) i 0
+chunk_read s bytes cs i q h e =
+    sym (ap (λ w. get_or w i 0) (pairs_chunks s (length s / 8) refl ∙ ap (map (from_le_bytes w64)) (sym q)) ∙ get_or-map (from_le_bytes w64) cs i bytes 0 h ∙ ap (from_le_bytes w64) (sym e))
 
-pub pair_stored : (s : List ℕ) (w1 w2 : List ℕ) (i v : ℕ) → i < length s / 8 → w1 ≡ set (words s) (2 * i) (v % 4294967296) → w2 ≡ set w1 (2 * i + 1) (v / 4294967296) → w2 ≡ set_pair (words s) i v
-pair_stored s w1 w2 i v h e1 e2 = e2 ∙ ap (λ w. set w (2 * i + 1) (v / 4294967296)) e1 ∙ pair_set (words s) i v (omega (arith, length_words s))
+pub chunk_missing : (s : List ℕ) (i : ℕ) → length s / 8 ≤ i → get_or (pairs (words s)) i 0 ≡ 0
+chunk_missing s i h = pairs_out (words s) i (omega (arith, length_words s))
+
+-- the eight bytes of a number are those of its low word and of its high one
+halves : (v : ℕ) → to_le_bytes w64 v ≡ to_le_bytes w32 (v % 4294967296) ++ to_le_bytes w32 (v / 4294967296)
+halves v =
+    let e : v % 256 ≡ v % 4294967296 % 256 = omega arith in
+    let f : v / 256 % 256 ≡ v % 4294967296 / 256 % 256 = omega arith in
+    let g : v / 65536 % 256 ≡ v % 4294967296 / 65536 % 256 = omega arith in
+    let h : v / 16777216 % 256 ≡ v % 4294967296 / 16777216 % 256 = omega arith in
+    let l : v / 1099511627776 % 256 ≡ v / 4294967296 / 256 % 256 = omega arith in
+    let m : v / 281474976710656 % 256 ≡ v / 4294967296 / 65536 % 256 = omega arith in
+    let n : v / 72057594037927936 % 256 ≡ v / 4294967296 / 16777216 % 256 = omega arith in
+    rw (e, f, g, h, l, m, n)
+
+pub pair_sets : (s : List ℕ) (i v : ℕ) → v < 2 ^ 64 → i < length s / 8 → words (sets s (8 * i) (to_le_bytes w64 v)) ≡ set_pair (words s) i v
+pair_sets s i v hv h =
+    let first : 8 * i ≡ 4 * (2 * i) = omega arith in
+    let second : suc (suc (suc (suc (8 * i)))) ≡ 4 * (2 * i + 1) = omega arith in
+    ap words (ap (sets s (8 * i)) (halves v) ∙ ap₂ (λ a b. sets (sets s a low) b high) first second)
+    ∙ words_sets (sets s (4 * (2 * i)) low) (2 * i + 1) (v / 4294967296) (omega arith) (omega (arith, length-sets s (4 * (2 * i)) low))
+    ∙ ap (λ w. set w (2 * i + 1) (v / 4294967296)) (words_sets s (2 * i) (v % 4294967296) (omega arith) (omega arith))
+    ∙ pair_set (words s) i v (omega (arith, length_words s))
+  where
+    low : List ℕ
+    low = to_le_bytes w32 (v % 4294967296)
+
+    high : List ℕ
+    high = to_le_bytes w32 (v / 4294967296)
 
 pub pair_not_stored : (s : List ℕ) (i v : ℕ) → length s / 8 ≤ i → words s ≡ set_pair (words s) i v
 pair_not_stored s i v h = pair_set_out (words s) i v (omega (arith, length_words s))

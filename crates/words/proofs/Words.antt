@@ -1,11 +1,16 @@
 -- Laws of words in bytes. Assumes nothing.
-use mathlib.Core.Path.{◌≡◌, refl, ap, sym, ◌∙◌}
-use mathlib.Core.List.{List, [], ◌∷◌}
-use Prim.Native.Nat.{ℕ, zero, suc, ◌+◌, ◌*◌, ◌/◌, ◌%◌, ◌<◌, ◌≤◌}
+use mathlib.Core.Path.{◌≡◌, refl, ap, ap₂, sym, ◌∙◌}
+use mathlib.Core.List.{List, [], ◌∷◌, ◌++◌, map}
+use Prim.Native.Nat.{ℕ, zero, suc, ◌+◌, ◌-◌, ◌*◌, ◌/◌, ◌%◌, ◌^◌, ◌<◌, ◌≤◌}
 use native.Mathlib.Omega.{arith}
 use native.Mathlib.Numerals.{add-one, add-two, add-three}
-use lib.ListN.{length, get_or, set, get_or-eq_default}
-use lib.Seq.{set_out}
+use lib.ListN.{length, length-drop, length-take, take, drop, get_or, set, get_or-eq_default}
+use lib.Seq.{set_out, sets, sets-eq, take-length}
+use borrow.Rule.Slice.PartMut.{put_mid}
+use Rattle.std.proofs.lemmas.List.{get_or-map}
+use Rattle.std.proofs.lemmas.Slice.{put_mid-paste}
+use Rattle.std.specs.Int.{w32, from_le_bytes, to_le_bytes}
+use Rattle.std.specs.Simd.{first_chunks}
 use Rattle.words.specs.Words.{le4, words}
 
 -- four times i, so that it computes
@@ -56,19 +61,6 @@ set_quad (x ∷ y ∷ z ∷ []) i a b c d h = absurd (omega arith)
 set_quad (x ∷ y ∷ z ∷ w ∷ s) zero a b c d h = refl
 set_quad (x ∷ y ∷ z ∷ w ∷ s) (suc i) a b c d h = ap (λ l. le4 x y z w ∷ l) (set_quad s i a b c d (omega arith))
 
--- the four bytes of v
-abbrev pub bytes4 : List ℕ → ℕ → ℕ → List ℕ
-bytes4 s k v = set (set (set (set s k (v % 256)) (k + 1) (v / 256 % 256)) (k + 2) (v / 256 / 256 % 256)) (k + 3) (v / 256 / 256 / 256 % 256)
-
--- a word's bytes are stored
-pub words_set : (s : List ℕ) (i v : ℕ) → v < 4294967296 → i < length s / 4 → words (bytes4 s (4 * i) v) ≡ set (words s) i v
-words_set s i v hv h =
-    rw (← quad_is i, add-one, add-two, add-three) (set_quad s i (v % 256) (v / 256 % 256) (v / 256 / 256 % 256) (v / 256 / 256 / 256 % 256) (omega (arith, length_words s)))
-    ∙ ap (set (words s) i) (whole v hv)
-  where
-    whole : (v : ℕ) → v < 4294967296 → le4 (v % 256) (v / 256 % 256) (v / 256 / 256 % 256) (v / 256 / 256 / 256 % 256) ≡ v
-    whole v h = omega arith
-
 -- nothing is stored past the last whole word
 pub words_set_out : (s : List ℕ) (i v : ℕ) → length s / 4 ≤ i → words s ≡ set (words s) i v
 words_set_out s i v h = sym (set_out (words s) i v (omega (arith, length_words s)))
@@ -98,3 +90,37 @@ words_determine (a ∷ b ∷ c ∷ d ∷ s) (x ∷ y ∷ u ∷ v ∷ t) e z hs h
     rest : List ℕ → List ℕ
     rest [] = []
     rest (k ∷ l) = l
+
+-- ---- words as the library reads and writes them, four bytes at a time
+pub words_chunks : (s : List ℕ) (k : ℕ) → k ≡ length s / 4 → words s ≡ map (from_le_bytes w32) (first_chunks 4 k s)
+unfolding words
+words_chunks [] zero h = refl
+words_chunks [] (suc k) h = absurd (omega arith)
+words_chunks (a ∷ []) zero h = refl
+words_chunks (a ∷ []) (suc k) h = absurd (omega arith)
+words_chunks (a ∷ b ∷ []) zero h = refl
+words_chunks (a ∷ b ∷ []) (suc k) h = absurd (omega arith)
+words_chunks (a ∷ b ∷ c ∷ []) zero h = refl
+words_chunks (a ∷ b ∷ c ∷ []) (suc k) h = absurd (omega arith)
+words_chunks (a ∷ b ∷ c ∷ d ∷ s) zero h = absurd (omega arith)
+words_chunks (a ∷ b ∷ c ∷ d ∷ s) (suc k) h = ap₂ (λ n l. n ∷ l) (le4_is a b c d) (words_chunks s k (omega arith))
+  where
+    le4_is : (a b c d : ℕ) → le4 a b c d ≡ from_le_bytes w32 (a ∷ b ∷ c ∷ d ∷ [])
+    le4_is a b c d = omega arith
+
+pub words_sets : (s : List ℕ) (i v : ℕ) → v < 2 ^ 32 → i < length s / 4 → words (sets s (4 * i) (to_le_bytes w32 v)) ≡ set (words s) i v
+words_sets s i v hv h = rw (← quad_is i) (set_quad s i _ _ _ _ (omega (arith, length_words s))) ∙ ap (set (words s) i) (whole v hv)
+  where
+    whole : (v : ℕ) → v < 2 ^ 32 → le4 (get_or (to_le_bytes w32 v) 0 0) (get_or (to_le_bytes w32 v) 1 0) (get_or (to_le_bytes w32 v) 2 0) (get_or (to_le_bytes w32 v) 3 0) ≡ v
+    whole v h = omega arith
+
+-- n bytes that were written are a run of stores
+pub stored : (t ys : List ℕ) (k n : ℕ) → k + n ≤ length t → length ys ≡ length (take (k + n - k) (drop k t)) → put_mid k (k + n - k) t ys ≡ sets t k ys
+stored t ys k n h e =
+    let f : length ys ≡ k + n - k = omega (arith, simp (length-take, length-drop) at e) in
+    put_mid-paste k (k + n - k) t ys ys (length ys) refl f refl ∙ ap (λ l. take k t ++ l ++ drop (k + length ys) t) (take-length ys) ∙ sym (sets-eq ys t k (omega arith))
+
+-- a word is read from its chunk
+pub chunk_read : (s bytes : List ℕ) (cs : List (List ℕ)) (i : ℕ) → cs ≡ first_chunks 4 (length s / 4) s → i < length cs → bytes ≡ get_or cs i bytes → from_le_bytes w32 bytes ≡ get_or (words s) i 0
+chunk_read s bytes cs i q h e =
+    sym (ap (λ w. get_or w i 0) (words_chunks s (length s / 4) refl ∙ ap (map (from_le_bytes w32)) (sym q)) ∙ get_or-map (from_le_bytes w32) cs i bytes 0 h ∙ ap (from_le_bytes w32) (sym e))

@@ -1,6 +1,10 @@
 -- `answers::put_float`: the goals that the search leaves. Assumes nothing.
-use Rattle.answers.proofs.Writes.{eight}
+use mathlib.Core.Path.{ap, ◌∙◌}
+use native.Mathlib.Omega.{arith}
+use lib.Seq.{sets}
+use Rattle.trees.specs.Pieces.{bytes}
+use Rattle.answers.proofs.Writes.{bytes8_is}
 use Rattle.answers.proofs.put_float.Goals as goal
 
 pub returns : goal.returns
-returns c = eight _ _ _ _ _ _ c.to_bits-v.ensures c.store.ensures c.store-2.ensures
+returns c = c.put_bytes.ensures.inside (omega (arith, c.requires)) ∙ ap (sets _ _) (c.to_le_bytes.ensures ∙ bytes8_is _ ∙ ap (bytes 8) c.to_bits.ensures)

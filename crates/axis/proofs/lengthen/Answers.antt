@@ -1,7 +1,7 @@
 -- `axis::lengthen`: the goals that the search leaves. Assumes nothing.
-use mathlib.Core.Path.{◌≡◌, refl, sym, ap, ◌∙◌}
-use mathlib.Core.Bool.{Bool, true, false, not}
-use Prim.Native.Nat.{ℕ, suc, ◌-◌, ◌≤◌}
+use mathlib.Core.Path.{◌≡◌, sym, ◌∙◌}
+use mathlib.Core.Bool.{true}
+use Prim.Native.Nat.{ℕ, suc, ◌+◌, ◌-◌, ◌≤◌, ◌<◌}
 use native.Mathlib.Omega.{arith}
 use lib.Ieee.{Float, binary64}
 use Rattle.floats.specs.Next.{next_up}
@@ -9,37 +9,23 @@ use Rattle.floats.specs.Span.{short, lengthened}
 use Rattle.floats.proofs.Span.{lengthened_more, lengthened_stop, lengthened_none}
 use Rattle.axis.proofs.lengthen.Goals as goal
 
-stepped : (n : ℕ) (lo hi len next : Float) (b : Bool) → 1 ≤ n → b ≡ short binary64 lo hi len → not b ≡ false → next ≡ next_up binary64 len → lengthened binary64 (n - 1) lo hi next ≡ lengthened binary64 n lo hi len
-stepped n lo hi len next b h e t k =
-    ap (λ (z : Float). lengthened binary64 (n - 1) lo hi z) k
-    ∙ sym (ap (λ (m : ℕ). lengthened binary64 m lo hi len) (one_less n h) ∙ lengthened_more binary64 (n - 1) lo hi len (sym e ∙ taken b t))
+stepped : (k : ℕ) (lo hi len next : Float) → k < 4 → short binary64 lo hi len ≡ true → next ≡ next_up binary64 len → lengthened binary64 (4 - (k + 1)) lo hi next ≡ lengthened binary64 (4 - k) lo hi len
+stepped k lo hi len next h s n = rw (n, one_less k h) (sym (lengthened_more binary64 (4 - (k + 1)) lo hi len s))
   where
-    one_less : (n : ℕ) → 1 ≤ n → n ≡ suc (n - 1)
-    one_less n h = omega arith
+    one_less : (k : ℕ) → k < 4 → 4 - k ≡ suc (4 - (k + 1))
+    one_less k h = omega arith
 
-    taken : (b : Bool) → not b ≡ false → b ≡ true
-    taken true t = refl
-    taken false t = sym t
-
-stopped : (n : ℕ) (lo hi len : Float) (b : Bool) → b ≡ short binary64 lo hi len → not b ≡ true → len ≡ lengthened binary64 n lo hi len
-stopped n lo hi len b e t = sym (lengthened_stop binary64 n lo hi len (sym e ∙ taken b t))
+ended : (k : ℕ) (lo hi len : Float) → 4 ≤ k → lengthened binary64 (4 - k) lo hi len ≡ len
+ended k lo hi len h = rw (none_left k h) (lengthened_none binary64 lo hi len)
   where
-    taken : (b : Bool) → not b ≡ true → b ≡ false
-    taken true t = sym t
-    taken false t = refl
-
-pub loop-left-init : goal.loop-left-init
-loop-left-init c = refl
+    none_left : (k : ℕ) → 4 ≤ k → 4 - k ≡ 0
+    none_left k h = omega arith
 
 pub returns-then-not-is_short : goal.returns-then-not-is_short
-returns-then-not-is_short c = let l = c.loop-left in
-    stopped l.left _ _ l.len _ c.is_short.ensures c.if-not-is_short.true-raw ∙ l.invariant
+returns-then-not-is_short c = sym (lengthened_stop binary64 (4 - c.loop.counter) _ _ _ (sym c.is_short.ensures ∙ c.if-not-is_short.true)) ∙ c.loop.invariant
 
-pub loop-left-preserved : goal.loop-left-preserved
-loop-left-preserved c = let l = c.loop-left in
-    stepped l.left _ _ l.len _ _ (omega arith) c.is_short.ensures c.if-not-is_short.false-raw c.next_up-len.ensures ∙ l.invariant
+pub loop-preserved : goal.loop-preserved
+loop-preserved c = stepped _ _ _ _ _ c.loop-test.true (sym c.is_short.ensures ∙ c.if-not-is_short.false) c.next_up-len.ensures ∙ c.loop.invariant
 
 pub returns : goal.returns
-returns c = let l = c.loop-left in
-    let e : l.left ≡ 0 = omega arith in
-    sym (ap (λ (n : ℕ). lengthened binary64 n c.args.lo c.args.hi l.len) e ∙ lengthened_none binary64 _ _ l.len) ∙ l.invariant
+returns c = sym (ended _ _ _ _ c.loop-test.false) ∙ c.loop.invariant

@@ -1,70 +1,55 @@
 -- `execution::answer`: the goals that the search leaves. Assumes nothing.
-use mathlib.Core.Path.{ap, refl}
+use mathlib.Core.Path.{ap, ◌∙◌, sym, refl}
 use native.Mathlib.Omega.{arith}
-use borrow.Author.Tests.{not-false, not-true}
-use Rattle.tree.specs.Depths.{kind}
-use Rattle.replies.proofs.Answers.{answers_as, answers_bad}
+use Rattle.std.specs.Prelude.{option_map}
+use Rattle.model.specs.Calls.{number}
+use Rattle.replies.specs.Lines.{makes}
 use Rattle.commands.specs.Commands.{call_in}
-use Rattle.execution.proofs.Doing.{has, lacks}
+use Rattle.replies.proofs.Answers.{answers_as, answers_bad, answers_none}
+use Rattle.execution.proofs.Doing.{done_held, opened, said, shut}
 use Rattle.execution.proofs.answer.Goals as goal
 
-pub returns-then-not-has_room : goal.returns-then-not-has_room
-returns-then-not-has_room c = record { answers = λ h. absurd (omega (arith, h, lacks c.args.deep _ _ _ _ c.axes-many.ensures c.has_room.ensures (not-true _ c.if-not-has_room.true-raw))); full = λ h. (refl, refl, refl, refl); within = λ h. h }
+pub returns-in_default-clause-answers : goal.returns-in_default-clause-answers
+unfolding number
+returns-in_default-clause-answers g c = λ h. answers_as g.R.Tree.kind _ _ _ _ _ _ _ _ _ _ (ap (option_map (call_in g.R.Region.sides g.R.Point.Place.place)) c.in_default.is) (answers_bad g.R.Tree.kind _ _ _ _ _ _ (c.put_reply.ensures.puts.wrote (omega (arith, h))))
 
-pub make-requires : goal.make-requires
-make-requires c = (has c.args.deep _ _ _ _ c.axes-many.ensures c.has_room.ensures (not-false _ c.if-not-has_room.false-raw))
-
-pub returns-in-Create : goal.returns-in-Create
-returns-in-Create c = record { answers = λ h. c.make.ensures.answers _ _ _ _ _ _ _ c.in-Create.is; full = λ h. absurd (omega (arith, h, (has c.args.deep _ _ _ _ c.axes-many.ensures c.has_room.ensures (not-false _ c.if-not-has_room.false-raw)))); within = λ h. c.make.ensures.within }
-
-pub insert-to-requires : goal.insert-to-requires
-insert-to-requires c = (has c.args.deep _ _ _ _ c.axes-many.ensures c.has_room.ensures (not-false _ c.if-not-has_room.false-raw))
-
-pub delete-to-requires : goal.delete-to-requires
-delete-to-requires c = (has c.args.deep _ _ _ _ c.axes-many.ensures c.has_room.ensures (not-false _ c.if-not-has_room.false-raw))
-
-pub contains-to-requires : goal.contains-to-requires
-contains-to-requires c = (has c.args.deep _ _ _ _ c.axes-many.ensures c.has_room.ensures (not-false _ c.if-not-has_room.false-raw))
-
-pub range-to-requires : goal.range-to-requires
-range-to-requires c = (has c.args.deep _ _ _ _ c.axes-many.ensures c.has_room.ensures (not-false _ c.if-not-has_room.false-raw))
-
-pub knn-to-requires : goal.knn-to-requires
-knn-to-requires c = (has c.args.deep _ _ _ _ c.axes-many.ensures c.has_room.ensures (not-false _ c.if-not-has_room.false-raw))
-
-pub area-to-requires : goal.area-to-requires
-area-to-requires c = (has c.args.deep _ _ _ _ c.axes-many.ensures c.has_room.ensures (not-false _ c.if-not-has_room.false-raw))
-
-pub len-to-requires : goal.len-to-requires
-len-to-requires c = (has c.args.deep _ _ _ _ c.axes-many.ensures c.has_room.ensures (not-false _ c.if-not-has_room.false-raw))
-
-pub clear-to-requires : goal.clear-to-requires
-clear-to-requires c = (has c.args.deep _ _ _ _ c.axes-many.ensures c.has_room.ensures (not-false _ c.if-not-has_room.false-raw))
-
-pub returns-in-Insert : goal.returns-in-Insert
-returns-in-Insert c = record { answers = λ h. c.insert-to.ensures.answers _ _ _ _ c.in-Insert.is; full = λ h. absurd (omega (arith, h, (has c.args.deep _ _ _ _ c.axes-many.ensures c.has_room.ensures (not-false _ c.if-not-has_room.false-raw)))); within = λ h. c.insert-to.ensures.within }
-
-pub returns-in-Delete : goal.returns-in-Delete
-returns-in-Delete c = record { answers = λ h. c.delete-to.ensures.answers _ _ _ _ c.in-Delete.is; full = λ h. absurd (omega (arith, h, (has c.args.deep _ _ _ _ c.axes-many.ensures c.has_room.ensures (not-false _ c.if-not-has_room.false-raw)))); within = λ h. c.delete-to.ensures.within }
-
-pub returns-in-Contains : goal.returns-in-Contains
-returns-in-Contains c = record { answers = λ h. c.contains-to.ensures.answers _ _ _ _ c.in-Contains.is; full = λ h. absurd (omega (arith, h, (has c.args.deep _ _ _ _ c.axes-many.ensures c.has_room.ensures (not-false _ c.if-not-has_room.false-raw)))); within = λ h. c.contains-to.ensures.within }
-
-pub returns-in-Range : goal.returns-in-Range
-returns-in-Range c = record { answers = λ h. c.range-to.ensures.answers _ _ _ _ c.in-Range.is; full = λ h. absurd (omega (arith, h, (has c.args.deep _ _ _ _ c.axes-many.ensures c.has_room.ensures (not-false _ c.if-not-has_room.false-raw)))); within = λ h. c.range-to.ensures.within }
-
-pub returns-in-Knn : goal.returns-in-Knn
-returns-in-Knn c = record { answers = λ h. c.knn-to.ensures.answers _ _ _ _ c.in-Knn.is; full = λ h. absurd (omega (arith, h, (has c.args.deep _ _ _ _ c.axes-many.ensures c.has_room.ensures (not-false _ c.if-not-has_room.false-raw)))); within = λ h. c.knn-to.ensures.within }
-
-pub returns-in-Box : goal.returns-in-Box
-returns-in-Box c = record { answers = λ h. c.area-to.ensures.answers _ _ _ _ _ _ c.in-Box.is; full = λ h. absurd (omega (arith, h, (has c.args.deep _ _ _ _ c.axes-many.ensures c.has_room.ensures (not-false _ c.if-not-has_room.false-raw)))); within = λ h. c.area-to.ensures.within }
-
-pub returns-in-Len : goal.returns-in-Len
-returns-in-Len c = record { answers = λ h. c.len-to.ensures.answers c.in-Len.is; full = λ h. absurd (omega (arith, h, (has c.args.deep _ _ _ _ c.axes-many.ensures c.has_room.ensures (not-false _ c.if-not-has_room.false-raw)))); within = λ h. c.len-to.ensures.within }
-
-pub returns-in-Clear : goal.returns-in-Clear
-returns-in-Clear c = record { answers = λ h. c.clear-to.ensures.answers c.in-Clear.is; full = λ h. absurd (omega (arith, h, (has c.args.deep _ _ _ _ c.axes-many.ensures c.has_room.ensures (not-false _ c.if-not-has_room.false-raw)))); within = λ h. c.clear-to.ensures.within }
-
-pub returns-in-Bad : goal.returns-in-Bad
+pub returns-in-Create-clause-answers : goal.returns-in-Create-clause-answers
 unfolding call_in
-returns-in-Bad c = record { answers = λ h. answers_as (kind c.args.deep) _ _ _ _ _ _ _ _ _ _ (ap (call_in c.args.deep) c.in-Bad.is) (answers_bad (kind c.args.deep) _ _ _ _ _ _ (c.put_reply-to.ensures.puts.wrote (omega (arith, h)))); full = λ h. absurd (omega (arith, h, (has c.args.deep _ _ _ _ c.axes-many.ensures c.has_room.ensures (not-false _ c.if-not-has_room.false-raw)))); within = c.put_reply-to.ensures.within }
+returns-in-Create-clause-answers g c = λ h. answers_as g.R.Tree.kind _ _ _ _ _ _ _ _ _ _ (said g.R.Region.sides g.R.Point.Place.place _ _ _ c.in-Some.is c.in-Create.is) c.make.ensures.answers
+
+pub returns-in-Insert-clause-answers : goal.returns-in-Insert-clause-answers
+unfolding call_in makes
+returns-in-Insert-clause-answers g c = λ h. done_held g.R.Tree.kind _ _ _ _ _ _ _ _ _ (said g.R.Region.sides g.R.Point.Place.place _ _ _ c.in-Some.is c.in-Insert.is) (opened g.R.Region.sides g.R.Point.Place.place _ _ _ _ c.if-not-held-makes.false c.makes.ensures c.in-Insert.is refl) c.insert.ensures.answers
+
+pub returns-in-Delete-clause-answers : goal.returns-in-Delete-clause-answers
+unfolding call_in makes
+returns-in-Delete-clause-answers g c = λ h. done_held g.R.Tree.kind _ _ _ _ _ _ _ _ _ (said g.R.Region.sides g.R.Point.Place.place _ _ _ c.in-Some.is c.in-Delete.is) (opened g.R.Region.sides g.R.Point.Place.place _ _ _ _ c.if-not-held-makes.false c.makes.ensures c.in-Delete.is refl) c.delete.ensures.answers
+
+pub returns-in-Contains-clause-answers : goal.returns-in-Contains-clause-answers
+unfolding call_in makes
+returns-in-Contains-clause-answers g c = λ h. done_held g.R.Tree.kind _ _ _ _ _ _ _ _ _ (said g.R.Region.sides g.R.Point.Place.place _ _ _ c.in-Some.is c.in-Contains.is) (opened g.R.Region.sides g.R.Point.Place.place _ _ _ _ c.if-not-held-makes.false c.makes.ensures c.in-Contains.is refl) c.contains.ensures.answers
+
+pub returns-in-Range-clause-answers : goal.returns-in-Range-clause-answers
+unfolding call_in makes
+returns-in-Range-clause-answers g c = λ h. done_held g.R.Tree.kind _ _ _ _ _ _ _ _ _ (said g.R.Region.sides g.R.Point.Place.place _ _ _ c.in-Some.is c.in-Range.is) (opened g.R.Region.sides g.R.Point.Place.place _ _ _ _ c.if-not-held-makes.false c.makes.ensures c.in-Range.is refl) c.range.ensures.answers
+
+pub returns-in-Knn-clause-answers : goal.returns-in-Knn-clause-answers
+unfolding call_in makes
+returns-in-Knn-clause-answers g c = λ h. done_held g.R.Tree.kind _ _ _ _ _ _ _ _ _ (said g.R.Region.sides g.R.Point.Place.place _ _ _ c.in-Some.is c.in-Knn.is) (opened g.R.Region.sides g.R.Point.Place.place _ _ _ _ c.if-not-held-makes.false c.makes.ensures c.in-Knn.is refl) c.knn.ensures.answers
+
+pub returns-in-Box-clause-answers : goal.returns-in-Box-clause-answers
+unfolding call_in makes
+returns-in-Box-clause-answers g c = λ h. done_held g.R.Tree.kind _ _ _ _ _ _ _ _ _ (said g.R.Region.sides g.R.Point.Place.place _ _ _ c.in-Some.is c.in-Box.is) (opened g.R.Region.sides g.R.Point.Place.place _ _ _ _ c.if-not-held-makes.false c.makes.ensures c.in-Box.is refl) c.area.ensures.answers
+
+pub returns-in-Len-clause-answers : goal.returns-in-Len-clause-answers
+unfolding call_in makes
+returns-in-Len-clause-answers g c = λ h. done_held g.R.Tree.kind _ _ _ _ _ _ _ _ _ (said g.R.Region.sides g.R.Point.Place.place _ _ _ c.in-Some.is c.in-Len.is) (opened g.R.Region.sides g.R.Point.Place.place _ _ _ _ c.if-not-held-makes.false c.makes.ensures c.in-Len.is refl) c.len.ensures.answers
+
+pub returns-in-Clear-clause-answers : goal.returns-in-Clear-clause-answers
+unfolding call_in makes
+returns-in-Clear-clause-answers g c = λ h. done_held g.R.Tree.kind _ _ _ _ _ _ _ _ _ (said g.R.Region.sides g.R.Point.Place.place _ _ _ c.in-Some.is c.in-Clear.is) (opened g.R.Region.sides g.R.Point.Place.place _ _ _ _ c.if-not-held-makes.false c.makes.ensures c.in-Clear.is refl) c.clear.ensures.answers
+
+pub returns-then-not-held-makes-clause-answers : goal.returns-then-not-held-makes-clause-answers
+unfolding number
+returns-then-not-held-makes-clause-answers g c = λ h. let s = shut _ _ c.if-not-held-makes.true in
+    answers_as g.R.Tree.kind _ _ _ _ _ _ _ _ _ _ (ap (option_map (call_in g.R.Region.sides g.R.Point.Place.place)) c.in-Some.is) (answers_none g.R.Tree.kind _ _ _ _ _ _ _ (sym c.makes.ensures ∙ s.1) s.0 (c.put_reply-then-not-held-makes.ensures.puts.wrote (omega (arith, h))))

@@ -1,17 +1,10 @@
 -- `execution::clear`: the goals that the search leaves. Assumes nothing.
-use mathlib.Core.Path.{ap, refl}
+use mathlib.Core.Path.{refl}
 use native.Mathlib.Omega.{arith}
-use borrow.Author.Tests.{not-false, not-true}
-use Rattle.tree.specs.Depths.{kind}
-use Rattle.replies.specs.Lines.{makes}
-use Rattle.replies.proofs.Answers.{answers_as, answers_change, answers_none, clear_bare, clear_stays}
-use Rattle.commands.specs.Commands.{call_in}
+use Rattle.model.specs.Calls.{number}
+use Rattle.replies.proofs.Answers.{answers_change, clear_bare, clear_stays}
 use Rattle.execution.proofs.clear.Goals as goal
 
-pub returns-then-not-held : goal.returns-then-not-held
-unfolding call_in makes
-returns-then-not-held c = record { answers = λ e. answers_as (kind c.args.deep) _ _ _ _ _ _ _ _ _ _ (ap (call_in c.args.deep) e) (answers_none (kind c.args.deep) _ _ _ _ _ _ _ refl (not-true _ c.if-not-held.true-raw) (c.put_reply.ensures.puts.wrote (omega (arith, c.requires)))); within = c.put_reply.ensures.within (omega (arith, c.requires)) }
-
-pub returns : goal.returns
-unfolding call_in
-returns c = record { answers = λ e. answers_as (kind c.args.deep) _ _ _ _ _ _ _ _ _ _ (ap (call_in c.args.deep) e) (answers_change (kind c.args.deep) _ _ _ _ _ _ _ _ _ clear_bare (clear_stays (kind c.args.deep)) (not-false _ c.if-not-held.false-raw) (c.clear-reply.ensures _ _) (c.put_reply-2.ensures.puts.wrote (omega (arith, c.requires)))); within = c.put_reply-2.ensures.within (omega (arith, c.requires)) }
+pub returns-clause-answers : goal.returns-clause-answers
+unfolding number
+returns-clause-answers g c = answers_change g.R.Tree.kind _ _ _ _ _ _ _ _ _ clear_bare (clear_stays g.R.Tree.kind) refl (c.clear.ensures _ _) (c.put_reply.ensures.puts.wrote (omega (arith, c.requires)))

@@ -1,20 +1,8 @@
 -- `execution::insert`: the goals that the search leaves. Assumes nothing.
-use mathlib.Core.Path.{ap, refl}
+use mathlib.Core.Path.{refl}
 use native.Mathlib.Omega.{arith}
-use borrow.Author.Tests.{not-false, not-true}
-use Rattle.tree.specs.Depths.{kind}
-use Rattle.replies.specs.Lines.{makes}
-use Rattle.replies.proofs.Answers.{answers_as, answers_change, answers_none, insert_bare, insert_stays}
-use Rattle.commands.specs.Commands.{call_in}
+use Rattle.replies.proofs.Answers.{answers_change, insert_bare, insert_stays}
 use Rattle.execution.proofs.insert.Goals as goal
 
-pub returns-in_default : goal.returns-in_default
-returns-in_default c = record { answers = λ x y z n e. absurd (c.in_default.not-Insert x y z n e); within = omega (arith, c.requires) }
-
-pub returns-then-not-held : goal.returns-then-not-held
-unfolding call_in makes
-returns-then-not-held c = record { answers = λ x y z n e. answers_as (kind c.args.deep) _ _ _ _ _ _ _ _ _ _ (ap (call_in c.args.deep) c.in-Insert.is) (answers_none (kind c.args.deep) _ _ _ _ _ _ _ refl (not-true _ c.if-not-held.true-raw) (c.put_reply.ensures.puts.wrote (omega (arith, c.requires)))); within = c.put_reply.ensures.within (omega (arith, c.requires)) }
-
-pub returns : goal.returns
-unfolding call_in
-returns c = record { answers = λ x y z n e. answers_as (kind c.args.deep) _ _ _ _ _ _ _ _ _ _ (ap (call_in c.args.deep) c.in-Insert.is) (answers_change (kind c.args.deep) _ _ _ _ _ _ _ _ _ (insert_bare _) (insert_stays (kind c.args.deep) _) (not-false _ c.if-not-held.false-raw) c.insert-reply.ensures (c.put_reply-2.ensures.puts.wrote (omega (arith, c.requires)))); within = c.put_reply-2.ensures.within (omega (arith, c.requires)) }
+pub returns-clause-answers : goal.returns-clause-answers
+returns-clause-answers g c = answers_change g.R.Tree.kind _ _ _ _ _ _ _ _ _ (insert_bare _) (insert_stays g.R.Tree.kind _) refl c.insert-done.ensures (c.put_reply.ensures.puts.wrote (omega (arith, c.requires)))

@@ -1,21 +1,8 @@
 -- `execution::knn`: the goals that the search leaves. Assumes nothing.
-use mathlib.Core.Path.{ap, refl}
-use native.Mathlib.Omega.{arith}
+use mathlib.Core.Path.{refl}
 use lib.ListN.{replicate}
-use borrow.Author.Tests.{not-false, not-true}
-use Rattle.tree.specs.Depths.{kind}
-use Rattle.replies.specs.Lines.{makes}
-use Rattle.replies.proofs.Answers.{answers_as, answers_none}
-use Rattle.commands.specs.Commands.{call_in}
 use Rattle.execution.proofs.Doing.{nearest_done}
 use Rattle.execution.proofs.knn.Goals as goal
 
-pub returns-in_default : goal.returns-in_default
-returns-in_default c = record { answers = λ x y z m e. absurd (c.in_default.not-Knn x y z m e); within = omega (arith, c.requires) }
-
-pub returns-then-not-held : goal.returns-then-not-held
-unfolding call_in makes
-returns-then-not-held c = record { answers = λ x y z m e. answers_as (kind c.args.deep) _ _ _ _ _ _ _ _ _ _ (ap (call_in c.args.deep) c.in-Knn.is) (answers_none (kind c.args.deep) _ _ _ _ _ _ _ refl (not-true _ c.if-not-held.true-raw) (c.put_reply.ensures.puts.wrote (omega (arith, c.requires)))); within = c.put_reply.ensures.within (omega (arith, c.requires)) }
-
-pub returns : goal.returns
-returns c = record { answers = λ x y z m e. nearest_done c.args.deep _ _ _ _ _ _ (λ i. (c.shared_slice_known-4-1.given i).fits) c.requires (not-false _ c.if-not-held.false-raw) (replicate 12288 0) (replicate 2048 0) _ _ (refl, refl) (c.knn_search-told.auto.coords, c.knn_search-told.auto.payloads) _ _ _ c.axes-many.ensures c.put_told.ensures.puts_told _ _ _ _ _ c.in-Knn.is c.knn_search-told.ensures; within = c.put_told.ensures.within (omega (arith, c.requires)) }
+pub returns-clause-answers : goal.returns-clause-answers
+returns-clause-answers g c = nearest_done _ g.met.R.Program.some_axes g.met.R.Program.few_axes _ _ _ _ _ c.requires.bytes c.requires.room (replicate 12288 0) (replicate 2048 0) _ _ (refl, refl) (c.knn_search-told.auto.coords, c.knn_search-told.auto.payloads) _ _ c.axes.ensures c.put_told.ensures.puts_told _ _ c.knn_search-told.ensures

@@ -1,17 +1,11 @@
 -- `geometry_answers::put`: the goals that the search leaves. Assumes nothing.
-use mathlib.Core.Path.{refl, sym, ◌∙◌}
+use mathlib.Core.Path.{sym, ◌∙◌}
 use Rattle.record.proofs.Spelling.{spelt_turn, spelt_done}
 use Rattle.geometry_answers.proofs.Texts.{number_put}
-use borrow.Author.Rules.{rules}
 use Rattle.geometry_answers.proofs.put.Goals as goal
 
-pub loop-k-init : goal.loop-k-init
-loop-k-init c = (search rules, refl, refl)
-
 pub loop-k-preserved : goal.loop-k-preserved
-loop-k-preserved c = let l = c.loop-k in
-    (search rules, search rules, (rw c.glyph.ensures (spelt_turn 16 l.k l.left l.out _ c.loop-k-test.true) ∙ l.invariant.2))
+loop-k-preserved c = let l = c.loop-k in rw c.glyph.ensures (spelt_turn 16 l.k l.left l.out _ c.loop-k-test.true) ∙ l.invariant
 
 pub returns : goal.returns
-returns c = let l = c.loop-k in
-    record { out_after = number_put _ _ _ _ _ _ c.to_bits-left.ensures (sym (spelt_done 16 l.left l.out _ l.k c.loop-k-test.false) ∙ l.invariant.2); value = refl }
+returns c = let l = c.loop-k in number_put _ _ _ _ _ _ c.to_bits-left.ensures (sym (spelt_done 16 l.left l.out _ l.k c.loop-k-test.false) ∙ l.invariant)

@@ -4,6 +4,3 @@ use Rattle.knn.proofs.insert.Given as goal
 
 abbrev pub invariant-loop-i : goal.invariant-loop-i
 invariant-loop-i l = Moving l.initial.dist l.initial.item l.n l.distance l.place l.dist l.item l.i
-
-abbrev pub decreases-loop-i : goal.decreases-loop-i
-decreases-loop-i l = l.i

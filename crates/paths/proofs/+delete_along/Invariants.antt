@@ -1,6 +1,6 @@
--- `paths::delete_along`: what its loops keep, and what grows less. Assumes nothing.
-use Prim.Native.Nat.{◌-◌}
+-- `paths::delete_along`: what grows less. Assumes nothing.
+use Rattle.std.proofs.Common.{length}
 use Rattle.paths.proofs.+delete_along.Given as goal
 
 abbrev pub decreases-delete_along : goal.decreases-delete_along
-decreases-delete_along l = l.n - l.j
+decreases-delete_along l = length l.path.now

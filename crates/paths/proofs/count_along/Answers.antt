@@ -1,16 +1,13 @@
 -- `paths::count_along`: the goals that the search leaves. Assumes nothing.
-use mathlib.Core.Path.{refl, ◌∙◌}
-use Rattle.trees.proofs.Ways.{counting_up_end, counting_up_over, counting_up_start, counting_up_step}
+use Rattle.std.proofs.Common.{refl, ◌∙◌, arith}
+use Rattle.trees.proofs.Ways.{counted_end, counted_step}
 use Rattle.paths.proofs.count_along.Goals as goal
 
-pub loop-j-init : goal.loop-j-init
-loop-j-init c = (refl, counting_up_start _ _ _)
+pub loop-i-init : goal.loop-i-init
+loop-i-init c = refl
 
-pub returns-then-j-path : goal.returns-then-j-path
-returns-then-j-path c = counting_up_over _ _ _ _ _ c.loop-j.invariant.1 c.if-j-path.true
-
-pub loop-j-preserved : goal.loop-j-preserved
-loop-j-preserved c = (c.count_up.auto.nodes ∙ c.loop-j.invariant.0, counting_up_step _ _ _ _ _ _ c.loop-j.invariant.1 c.loop-j-test.true c.if-j-path.false c.count_up.ensures)
+pub loop-i-preserved : goal.loop-i-preserved
+loop-i-preserved c = counted_step c.args.path.now _ _ c.loop-i.i-index (omega arith) c.count_up.ensures ∙ c.loop-i.invariant
 
 pub returns : goal.returns
-returns c = counting_up_end _ _ _ _ _ c.loop-j.invariant.1 c.loop-j-test.false
+returns c = counted_end c.args.path.now _ c.loop-i.i-index (omega arith) ∙ c.loop-i.invariant

@@ -1,13 +1,8 @@
--- `paths::count_along`: what its loops keep, and what grows less. Assumes nothing.
-use mathlib.Core.Path.{◌≡◌}
-use Prim.Native.Nat.{◌-◌}
-use lib.ListN.{length}
+-- `paths::count_along`: what its loops keep. Assumes nothing.
+use Rattle.std.proofs.Common.{◌≡◌, drop}
 use Rattle.words.specs.Words.{words}
-use Rattle.trees.proofs.Ways.{CountingUp}
+use Rattle.trees.proofs.Ways.{counted_all}
 use Rattle.paths.proofs.count_along.Given as goal
 
-abbrev pub invariant-loop-j : goal.invariant-loop-j
-invariant-loop-j l = (length l.nodes ≡ length l.initial.nodes) × CountingUp l.path l.n (words l.initial.nodes) (words l.nodes) l.j
-
-abbrev pub decreases-loop-j : goal.decreases-loop-j
-decreases-loop-j l = l.n - l.j
+abbrev pub invariant-loop-i : goal.invariant-loop-i
+invariant-loop-i l = counted_all (words l.nodes) (drop l.i-index l.path) ≡ counted_all (words l.initial.nodes) l.path

@@ -1,16 +1,8 @@
 -- `program::run`: the goals that the search leaves. Assumes nothing.
+use mathlib.Core.Path.{refl}
 use native.Mathlib.Omega.{arith}
-use Rattle.program.proofs.Starts.{ran, starts_oct, starts_quad}
+use Rattle.program.proofs.Starts.{head_is, nodes_is, points_is, starts}
 use Rattle.program.proofs.run.Goals as goal
 
 pub take_turns-requires : goal.take_turns-requires
-take_turns-requires g c = (omega arith, omega arith, starts_oct)
-
-pub take_turns-requires-else-deep : goal.take_turns-requires-else-deep
-take_turns-requires-else-deep g c = (omega arith, omega arith, starts_quad)
-
-pub returns-then-deep : goal.returns-then-deep
-returns-then-deep g c = ran _ _ _ _ _ c.if-deep.true c.take_turns.ensures
-
-pub returns-else-deep : goal.returns-else-deep
-returns-else-deep g c = ran _ _ _ _ _ c.if-deep.false c.take_turns-else-deep.ensures
+take_turns-requires g c = (omega arith, omega (arith, g.met.R.Program.few_axes), starts g.R.Tree.kind g.R.Tree.groups _ _ _ _ g.met.R.Tree.named (head_is g.R.Tree.kind _ c.axes-axes.ensures g.met.R.Program.few_axes) (nodes_is g.R.Tree.kind g.R.Tree.groups _ _ c.ways-ways.ensures c.rows-rows.ensures g.met.R.Program.few_nodes) refl (points_is g.R.Tree.kind _ c.axes-axes.ensures g.met.R.Program.few_axes))

@@ -11,6 +11,3 @@ use Rattle.sound.proofs.children_count.Given as goal
 
 abbrev pub invariant-loop-c : goal.invariant-loop-c
 invariant-loop-c l = (l.c ≤ l.ways) × (l.sum ≤ 4294967296 * l.c) × (l.sum + counts l.ways (words l.nodes) l.k l.c (l.ways - l.c) ≡ counts l.ways (words l.nodes) l.k 0 l.ways)
-
-abbrev pub decreases-loop-c : goal.decreases-loop-c
-decreases-loop-c l = l.ways - l.c

@@ -1,23 +1,28 @@
 -- `tree_delete::delete`: the goals that the search leaves. Assumes nothing.
-use Rattle.tree.specs.Depths.{kind}
-use Rattle.tree.proofs.Depths.{regular}
-use Rattle.tree.proofs.Numbers.{coords_numbers}
-use mathlib.Core.Path.{subst, sym, ◌∙◌}
+use mathlib.Core.Path.{refl, sym, ◌∙◌}
+use Rattle.std.proofs.Common.{length-take-le}
 use native.Mathlib.Omega.{arith}
-use lib.Dec.{T}
 use borrow.Author.Tests.{not-false, not-true}
+use Rattle.model.specs.Calls.{number}
 use Rattle.trees.proofs.Removals.{deletes_absent, deletes_done, deletes_outside}
 use Rattle.trees.proofs.Deletes.{along_all}
-use Rattle.trees.proofs.Ways.{path_is}
-use Rattle.tree.specs.Depths.{kind}
-use Rattle.tree.proofs.Numbers.{coords_numbers}
+use Rattle.trees.proofs.Ways.{path_is, path_short}
 use Rattle.tree_delete.proofs.delete.Goals as goal
 
 pub returns-then-not-contains : goal.returns-then-not-contains
-returns-then-not-contains c = deletes_outside (kind c.args.deep) (regular c.args.deep) _ _ (coords_numbers c.args.deep _ _ _ (subst T (sym c.well_formed.1.1.1.1.1.0.1) tt) (subst T (sym c.well_formed.1.1.1.1.1.1.0.1) tt) (subst T (sym c.well_formed.1.1.1.1.1.1.1.0.1) tt)) _ _ c.boundary-bounds.ensures c.contains.ensures (not-true c.contains.result c.if-not-contains.true-raw)
+unfolding number
+returns-then-not-contains g c = deletes_outside g.R.Tree.kind g.met.R.Tree.regular _ _ c.numbers.ensures _ _ c.boundary-bounds.ensures c.contains.ensures (not-true c.contains.result c.if-not-contains.true-raw)
 
-pub returns-then-p-eq0 : goal.returns-then-p-eq0
-returns-then-p-eq0 c = deletes_absent (kind c.args.deep) (regular c.args.deep) _ _ (coords_numbers c.args.deep _ _ _ (subst T (sym c.well_formed.1.1.1.1.1.0.1) tt) (subst T (sym c.well_formed.1.1.1.1.1.1.0.1) tt) (subst T (sym c.well_formed.1.1.1.1.1.1.1.0.1) tt)) _ _ c.boundary-bounds.ensures c.contains.ensures (not-false c.contains.result c.if-not-contains.false-raw) _ c.leaf_of-leaf.ensures.0 _ c.first-start.ensures _ c.find_in-spot.ensures c.if-p-eq0.true
+pub returns-in_default : goal.returns-in_default
+unfolding number
+returns-in_default g c = deletes_absent g.R.Tree.kind g.met.R.Tree.regular _ _ c.numbers.ensures _ _ c.boundary-bounds.ensures c.contains.ensures (not-false c.contains.result c.if-not-contains.false-raw) _ c.leaf_of-leaf.ensures.node _ c.first-start.ensures _ refl c.in_default.ensures
 
 pub returns : goal.returns
-returns c = deletes_done (kind c.args.deep) (regular c.args.deep) _ _ (coords_numbers c.args.deep _ _ _ (subst T (sym c.well_formed.1.1.1.1.1.0.1) tt) (subst T (sym c.well_formed.1.1.1.1.1.1.0.1) tt) (subst T (sym c.well_formed.1.1.1.1.1.1.1.0.1) tt)) _ _ c.boundary-bounds.ensures c.contains.ensures (not-false c.contains.result c.if-not-contains.false-raw) _ c.leaf_of-leaf.ensures.0 _ c.first-start.ensures _ c.find_in-spot.ensures c.if-p-eq0.false _ c.capacity-most.ensures _ _ _ c.unlink.auto.nodes (c.give_place.auto.links ∙ c.unlink.auto.links) (along_all _ _ _ _ _ _ _ _ _ _ _ _ _ _ (c.unlink.ensures _ _) (path_is _ _ _ _ _ _ _ _ _ (omega arith) c.leaf_of-leaf.ensures.1) c.leaf_of-leaf.ensures.0) c.give_place.ensures.tree
+unfolding number
+returns g c = deletes_done g.R.Tree.kind g.met.R.Tree.regular _ _ c.numbers.ensures _ _ c.boundary-bounds.ensures c.contains.ensures (not-false c.contains.result c.if-not-contains.false-raw) _ c.leaf_of-leaf.ensures.node _ c.first-start.ensures _ c.in-Some.ensures.0 c.in-Some.ensures.1 _ c.capacity-most.ensures _ _ _ c.unlink.auto.nodes (c.give_place.auto.links ∙ c.unlink.auto.links) (along_all _ _ _ _ _ _ _ _ _ _ _ _ _ _ (c.unlink.ensures _ _) (path_is _ _ _ _ _ _ _ _ _ (omega arith) c.leaf_of-leaf.ensures.notes) c.leaf_of-leaf.ensures.node) c.give_place.ensures.tree
+
+pub slice_bounds-path-end : goal.slice_bounds-path-end
+slice_bounds-path-end g c = omega (arith, c.leaf_of-leaf.auto.path, path_short _ _ _ _ _ _ _ _ _ (omega arith) c.leaf_of-leaf.ensures.notes)
+
+pub slice_bounds-unlink-end : goal.slice_bounds-unlink-end
+slice_bounds-unlink-end g c = sym (length-take-le _ _ (omega (arith, c.leaf_of-leaf.auto.path, path_short _ _ _ _ _ _ _ _ _ (omega arith) c.leaf_of-leaf.ensures.notes)))

@@ -1,37 +1,33 @@
 -- `record::numbers::number_of`: the goals that the search leaves. Assumes nothing.
 use native.Mathlib.Omega.{arith}
-use mathlib.Core.Option.{some}
-use Rattle.record.specs.Read.{float_in}
+use Rattle.std.specs.Prelude.{Some}
 use mathlib.Core.Path.{refl, ap, ◌∙◌}
 use Rattle.record.proofs.Digits.{number_short, number_bad, number_good, hex_fits, hex_room, digits_no, digits_yes, digits_all, value_more, value_all}
 use borrow.Author.Rules.{rules}
 use Rattle.record.proofs.numbers.number_of.Goals as goal
 
 pub returns-then-s-ne16 : goal.returns-then-s-ne16
-unfolding float_in
 returns-then-s-ne16 c = number_short _ c.if-s-ne16.true
 
-pub loop-i-init : goal.loop-i-init
-loop-i-init c = (search rules, search rules, refl, refl)
+pub loop-b-init : goal.loop-b-init
+loop-b-init c = (search rules, refl, refl)
 
 pub returns-then-d-ge16 : goal.returns-then-d-ge16
-unfolding float_in
-returns-then-d-ge16 c = let l = c.loop-i in
-    number_bad _ (digits_no 16 _ l.i _ (search rules) l.invariant.3 c.digit-d.ensures c.if-d-ge16.true)
+returns-then-d-ge16 c = let l = c.loop-b in
+    number_bad _ (digits_no 16 _ l.b-index _ (search rules) l.invariant.2 c.digit-d.ensures c.if-d-ge16.true)
 
 pub overflow_mul-n : goal.overflow_mul-n
-overflow_mul-n c = omega (arith, hex_fits _ 0 _ c.loop-i.invariant.1 (omega arith) (omega arith))
+overflow_mul-n c = omega (arith, hex_fits _ 0 _ c.loop-b.invariant.0 (omega arith) (omega arith))
 
 pub overflow_add-n : goal.overflow_add-n
-overflow_add-n c = record { fits = hex_fits _ _ _ c.loop-i.invariant.1 (search rules) (omega arith) }
+overflow_add-n c = record { fits = hex_fits _ _ _ c.loop-b.invariant.0 (search rules) (omega arith) }
 
-pub loop-i-preserved : goal.loop-i-preserved
-loop-i-preserved c = let l = c.loop-i in
-    let h = c.loop-i-test.true in
-    (search rules, hex_room _ _ _ l.invariant.1 c.if-d-ge16.false, value_more 16 _ _ _ _ h l.invariant.2 c.digit-d.ensures, digits_yes 16 _ _ _ h l.invariant.3 c.digit-d.ensures c.if-d-ge16.false)
+pub loop-b-preserved : goal.loop-b-preserved
+loop-b-preserved c = let l = c.loop-b in
+    let h = c.loop-b-test.true in
+    (hex_room _ _ _ l.invariant.0 c.if-d-ge16.false, value_more 16 _ _ _ _ h l.invariant.1 c.digit-d.ensures, digits_yes 16 _ _ _ h l.invariant.2 c.digit-d.ensures c.if-d-ge16.false)
 
 pub returns : goal.returns
-unfolding float_in
-returns c = let l = c.loop-i in
-    ap some c.from_bits.ensures
-    ∙ number_good _ l.n (search rules) (digits_all 16 _ l.i l.invariant.0 c.loop-i-test.false l.invariant.3) (value_all 16 l.n _ l.i l.invariant.0 c.loop-i-test.false l.invariant.2)
+returns c = let l = c.loop-b in
+    ap Some c.from_bits.ensures
+    ∙ number_good _ l.n (search rules) (digits_all 16 _ l.b-index (search rules) c.loop-b-test.false l.invariant.2) (value_all 16 l.n _ l.b-index (search rules) c.loop-b-test.false l.invariant.1)

@@ -1,13 +1,9 @@
 -- `tree::head::fits`: the goals that the search leaves. Assumes nothing.
-use mathlib.Core.Path.{refl, subst⁻¹}
-use Rattle.model.specs.Calls.{octree, quadtree}
-use Rattle.trees.specs.Pieces.{Decides, Fits, pieces}
-use Rattle.trees.proofs.Heads.{measured_as}
-use Rattle.tree.specs.Depths.{kind}
+use mathlib.Core.Path.{sym, ap₂, ◌∙◌}
+use Prim.Native.Nat.{ℕ, suc, ◌*◌}
+use Rattle.trees.proofs.Heads.{Measured}
 use Rattle.tree.proofs.head.fits.Goals as goal
 
-pub returns-then-deep : goal.returns-then-deep
-returns-then-deep c = subst⁻¹ (λ d. Decides c.fits.result (Fits (kind d) (pieces c.args.head.now c.args.nodes.now c.args.links.now c.args.points.now))) c.if-deep.true (measured_as octree 40 _ _ refl c.fits.ensures)
-
-pub returns-else-deep : goal.returns-else-deep
-returns-else-deep c = subst⁻¹ (λ d. Decides c.fits-else-deep.result (Fits (kind d) (pieces c.args.head.now c.args.nodes.now c.args.links.now c.args.points.now))) c.if-deep.false (measured_as quadtree 85 _ _ refl c.fits-else-deep.ensures)
+pub returns : goal.returns
+unfolding Measured
+returns g c = c.fits.ensures g.R.Tree.kind (sym c.axes.ensures) (sym c.ways.ensures) (g.met.R.Tree.named.roomy ∙ ap₂ (λ (w m : ℕ). suc (w * m)) (sym c.ways.ensures) (sym c.rows.ensures))

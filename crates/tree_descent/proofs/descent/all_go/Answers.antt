@@ -1,23 +1,18 @@
 -- `tree_descent::descent::all_go`: the goals that the search leaves. Assumes nothing.
-use mathlib.Core.Path.{refl, sym, ap, ◌∙◌}
-use native.Mathlib.Omega.{arith}
-use Rattle.words.proofs.Words.{length_words}
+use mathlib.Core.Path.{sym, ap, ◌∙◌}
 use Rattle.model.specs.Boxes.{route}
-use Rattle.trees.proofs.Descents.{together_end, together_next, together_no, together_stop, together_whole}
-use Rattle.tree.specs.Depths.{sides}
+use Rattle.trees.proofs.Descents.{alike_end, alike_next, alike_no, alike_start}
+use Rattle.tree.specs.Lists.{rest}
 use Rattle.tree_descent.proofs.descent.all_go.Goals as goal
 
-pub loop-left-init : goal.loop-left-init
-loop-left-init c = refl
+pub loop-p-init : goal.loop-p-init
+loop-p-init g c = alike_start _ _ _ _ _ _ (ap rest c.into_iter-p-iterator.ensures.into_iter_gives ∙ c.list-p-items.ensures)
 
-pub returns-then-p-eq0 : goal.returns-then-p-eq0
-returns-then-p-eq0 c = together_whole _ _ _ _ _ _ _ (length_words c.args.links.now) (sym (together_stop _ _ _ _ _ c.if-p-eq0.true) ∙ c.loop-left.invariant)
+pub returns-then-child_index-c : goal.returns-then-child_index-c
+returns-then-child_index-c g c = sym (alike_no _ _ _ _ _ _ c.in-Some.ensures.steps (c.child_index.ensures.value ∙ ap (route (g.R.Region.sides c.args.bounds)) c.point_at.ensures) c.if-child_index-c.true) ∙ c.loop-p.invariant
 
-pub returns-then-t-c : goal.returns-then-t-c
-returns-then-t-c c = together_whole _ _ _ _ _ _ _ (length_words c.args.links.now) (sym (together_no _ _ _ _ _ _ c.loop-left-test.true c.if-p-eq0.false (c.child_index-t.ensures.0 ∙ ap (route (sides c.args.deep c.args.bounds)) c.point_at-held.ensures) c.if-t-c.true) ∙ c.loop-left.invariant)
-
-pub loop-left-preserved : goal.loop-left-preserved
-loop-left-preserved c = sym (together_next _ _ _ _ _ _ _ c.loop-left-test.true c.if-p-eq0.false (c.child_index-t.ensures.0 ∙ ap (route (sides c.args.deep c.args.bounds)) c.point_at-held.ensures) c.if-t-c.false c.next-p.ensures) ∙ c.loop-left.invariant
+pub loop-p-preserved : goal.loop-p-preserved
+loop-p-preserved g c = sym (alike_next _ _ _ _ _ _ c.in-Some.ensures.steps (c.child_index.ensures.value ∙ ap (route (g.R.Region.sides c.args.bounds)) c.point_at.ensures) c.if-child_index-c.false) ∙ c.loop-p.invariant
 
 pub returns : goal.returns
-returns c = together_whole _ _ _ _ _ _ _ (length_words c.args.links.now) (sym (together_end _ _ _ _ _ (omega (arith, c.loop-left-test.false))) ∙ c.loop-left.invariant)
+returns g c = sym (alike_end _ _ _ c.in-None.ensures.steps.0) ∙ c.loop-p.invariant

@@ -1,21 +1,22 @@
 -- `tree_descent::descent::find_in`: the goals that the search leaves. Assumes nothing.
-use mathlib.Core.Path.{refl, sym, ◌∙◌}
-use native.Mathlib.Omega.{arith}
-use Rattle.words.proofs.Words.{length_words}
-use Rattle.trees.proofs.Finds.{seek_end, seek_hit, seek_next, seek_stop, seek_whole}
+use mathlib.Core.Path.{sym, ap, ◌∙◌}
+use Prim.Native.Nat.{ℕ}
+use mathlib.Core.List.{List}
+use Rattle.model.specs.Trees.{same}
+use Rattle.words.specs.Words.{words}
+use Rattle.trees.specs.Points.{point_at}
+use Rattle.trees.proofs.Finds.{Place, chain_some, seek, seek_end, seek_hit, seek_next}
+use Rattle.tree.specs.Lists.{rest}
 use Rattle.tree_descent.proofs.descent.find_in.Goals as goal
 
-pub loop-left-init : goal.loop-left-init
-loop-left-init c = refl
-
-pub returns-then-p-eq0 : goal.returns-then-p-eq0
-returns-then-p-eq0 c = seek_whole _ _ _ _ _ _ (length_words c.args.links.now) (sym (seek_stop _ _ _ _ _ c.if-p-eq0.true) ∙ c.loop-left.invariant)
+pub loop-place-init : goal.loop-place-init
+loop-place-init g c = ap (λ (l : List ℕ). seek (λ p. same (record { at = g.R.Point.Place.place c.args.point; payload = c.args.mark }) (point_at g.R.Tree.kind.axes (words c.args.tree.now.points.now) p)) l 0) (ap rest c.into_iter-place-iterator.ensures.into_iter_gives ∙ c.list-place-items.ensures)
 
 pub returns-then-same_at : goal.returns-then-same_at
-returns-then-same_at c = seek_whole _ _ _ _ _ _ (length_words c.args.links.now) (sym (seek_hit _ _ _ _ _ _ c.loop-left-test.true c.if-p-eq0.false c.same_at.ensures c.if-same_at.true) ∙ c.loop-left.invariant)
+returns-then-same_at g c = (seek_hit _ _ _ _ _ _ c.in-Some.ensures.steps c.same_at.ensures c.if-same_at.true ∙ c.loop-place.invariant, chain_some _ _ _ _ _ c.in-Some.ensures.steps)
 
-pub loop-left-preserved : goal.loop-left-preserved
-loop-left-preserved c = sym (seek_next _ _ _ _ _ _ _ c.loop-left-test.true c.if-p-eq0.false c.same_at.ensures c.if-same_at.false c.next-p.ensures) ∙ c.loop-left.invariant
+pub loop-place-preserved : goal.loop-place-preserved
+loop-place-preserved g c = seek_next _ _ _ _ _ _ c.in-Some.ensures.steps c.same_at.ensures c.if-same_at.false ∙ c.loop-place.invariant
 
 pub returns : goal.returns
-returns c = seek_whole _ _ _ _ _ _ (length_words c.args.links.now) (sym (seek_end _ _ _ _ _ (omega (arith, c.loop-left-test.false))) ∙ c.loop-left.invariant)
+returns g c = ap (λ (s : Place). s.place) (sym c.loop-place.invariant) ∙ seek_end _ _ _ c.in-None.ensures.steps.0

@@ -1,12 +1,9 @@
--- `tree_descent::descent::leaf_of`: what its loops keep, and what grows less. Assumes nothing.
+-- `tree_descent::descent::leaf_of`: what its loops keep. Assumes nothing.
+use Prim.Native.Nat.{◌-◌}
 use Rattle.words.specs.Words.{words}
 use Rattle.trees.proofs.Ways.{Going}
-use Rattle.tree.specs.Depths.{kind, place, sides}
 use Rattle.model.specs.Calls.{ways}
 use Rattle.tree_descent.proofs.descent.leaf_of.Given as goal
 
-abbrev pub invariant-loop-left : goal.invariant-loop-left
-invariant-loop-left l = Going (ways (kind l.deep)) (words l.nodes) (place l.deep l.point) l.initial.left (sides l.deep l.initial.b) l.initial.node l.initial.path l.left (sides l.deep l.b) l.node l.path l.depth
-
-abbrev pub decreases-loop-left : goal.decreases-loop-left
-decreases-loop-left l = l.left
+abbrev pub invariant-loop-step : goal.invariant-loop-step
+invariant-loop-step g l = Going (ways g.R.Tree.kind) (words l.nodes) (g.R.Point.Place.place l.point) l.levels (g.R.Region.sides l.fn.from.bounds) l.fn.from.index l.fn.path (l.levels - l.step) (g.R.Region.sides l.bounds) l.index l.path l.depth

@@ -1,21 +1,21 @@
 -- `tree_descent::descent::need`: the goals that the search leaves. Assumes nothing.
-use mathlib.Core.Path.{refl}
 use native.Mathlib.Omega.{arith}
 use Rattle.trees.proofs.Collects.{said_no, said_yes}
 use Rattle.trees.proofs.Descents.{counting_apart, counting_end, counting_on, counting_start, needs_room}
 use Rattle.tree_descent.proofs.descent.need.Goals as goal
+use mathlib.Core.Path.{refl}
 
-pub returns-then-n-capacity : goal.returns-then-n-capacity
-returns-then-n-capacity c = needs_room _ _ _ _ _ _ _ _ _ c.count-n.ensures c.if-n-capacity.true
+pub returns-then-count-capacity : goal.returns-then-count-capacity
+returns-then-count-capacity g c = needs_room _ _ _ _ _ _ _ _ _ c.count.ensures c.if-count-capacity.true
 
-pub loop-left-init : goal.loop-left-init
-loop-left-init c = (omega arith, counting_start _ _ _ _ _ _ _ _)
+pub loop-more-init : goal.loop-more-init
+loop-more-init g c = counting_start _ _ _ _ _ _ _ _ _ (omega arith)
 
-pub returns-then-not-on : goal.returns-then-not-on
-returns-then-not-on c = counting_apart _ _ _ _ _ _ _ _ _ _ _ _ _ _ _ c.loop-left.invariant.1 c.loop-left-test.true c.first-head.ensures c.child_index-c.ensures.0 c.all_go-on.ensures (said_no _ _ refl c.if-not-on.true-raw) c.count-n.ensures c.if-n-capacity.false
+pub returns-then-not-all_go : goal.returns-then-not-all_go
+returns-then-not-all_go g c = counting_apart _ _ _ _ _ _ _ _ _ _ _ _ _ _ _ c.loop-more.invariant (omega (arith, c.loop-more-test.true)) c.first-head.ensures c.child_index-c.ensures.value c.all_go.ensures (said_no _ _ refl c.if-not-all_go.true-raw) c.count.ensures c.if-count-capacity.false
 
-pub loop-left-preserved : goal.loop-left-preserved
-loop-left-preserved c = (omega (arith, c.loop-left.invariant.0, c.loop-left-test.true), counting_on _ _ _ _ _ _ _ _ _ _ _ _ _ _ _ c.loop-left.invariant.1 c.loop-left-test.true c.first-head.ensures c.child_index-c.ensures.0 c.all_go-on.ensures (said_yes _ _ refl c.if-not-on.false-raw) c.part-b.ensures)
+pub loop-more-preserved : goal.loop-more-preserved
+loop-more-preserved g c = counting_on _ _ _ _ _ _ _ _ _ _ _ _ _ _ _ _ c.loop-more.invariant (omega (arith, c.loop-more-test.true)) c.first-head.ensures c.child_index-c.ensures.value c.all_go.ensures (said_yes _ _ refl c.if-not-all_go.false-raw) c.child-bounds.ensures (omega arith)
 
 pub returns : goal.returns
-returns c = counting_end _ _ _ _ _ _ _ _ _ _ _ _ c.loop-left.invariant.1 (omega (arith, c.loop-left-test.false)) c.count-n.ensures c.if-n-capacity.false
+returns g c = counting_end _ _ _ _ _ _ _ _ _ _ _ _ _ c.loop-more.invariant (omega (arith, c.loop-more-test.false)) (omega (arith, c.loop-more-test.false, c.loop-more.auto.more-end)) c.count.ensures c.if-count-capacity.false

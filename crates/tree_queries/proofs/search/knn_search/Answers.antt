@@ -1,14 +1,13 @@
 -- `tree_queries::search::knn_search`: the goals that the search leaves. Assumes nothing.
-use mathlib.Core.Path.{refl, sym, subst}
-use lib.Dec.{T}
-use Rattle.trees.specs.Pieces.{pieces, room_for}
+use mathlib.Core.Path.{refl}
+use Rattle.model.specs.Calls.{number}
+use Rattle.pieces.specs.Views.{seen}
 use Rattle.trees.proofs.Queries.{nearest_given, nearest_nothing}
-use Rattle.tree.specs.Depths.{coords, kind}
-use Rattle.tree.proofs.Numbers.{coords_length, coords_numbers}
 use Rattle.tree_queries.proofs.search.knn_search.Goals as goal
 
 pub returns-then-k-eq0 : goal.returns-then-k-eq0
-returns-then-k-eq0 c = nearest_nothing (kind c.args.deep) (pieces (c.args.head.now) (c.args.nodes.now) (c.args.links.now) (c.args.points.now)) (c.args.coords.now) (c.args.payloads.now) (room_for (kind c.args.deep).axes (c.args.coords.now) (c.args.payloads.now)) (coords c.args.deep c.args.x c.args.y c.args.z) _ c.if-k-eq0.true
+unfolding number
+returns-then-k-eq0 g c = nearest_nothing g.R.Tree.kind (seen c.args.tree.now) _ _ _ _ _ c.if-k-eq0.true
 
 pub returns : goal.returns
-returns c = nearest_given (kind c.args.deep) (pieces (c.args.head.now) (c.args.nodes.now) (c.args.links.now) (c.args.points.now)) (c.args.coords.now) (c.args.payloads.now) (room_for (kind c.args.deep).axes (c.args.coords.now) (c.args.payloads.now)) _ _ _ _ (coords c.args.deep c.args.x c.args.y c.args.z) _ _ _ _ _ _ _ (coords_numbers c.args.deep _ _ _ (subst T (sym c.well_formed.1.1.1.1.1.0.1) tt) (subst T (sym c.well_formed.1.1.1.1.1.1.0.1) tt) (subst T (sym c.well_formed.1.1.1.1.1.1.1.0.1) tt)) (coords_length c.args.deep _ _ _) c.boundary-bounds.ensures c.if-k-eq0.false refl refl (c.knn_search_helper-n.auto.dist) (c.knn_search_helper-n.auto.item) c.knn_search_helper-n.ensures c.hand_over.ensures
+returns g c = nearest_given g.R.Tree.kind (seen c.args.tree.now) _ _ _ _ _ _ _ _ _ _ _ _ _ _ _ c.numbers.ensures (g.met.R.Tree.each_axis c.args.target) c.boundary.ensures c.if-k-eq0.false refl refl c.knn_search_helper.ensures.same.dist_length c.knn_search_helper.ensures.same.item_length c.knn_search_helper.ensures.seeks c.hand_over.ensures

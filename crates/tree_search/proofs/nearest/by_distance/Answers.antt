@@ -1,15 +1,22 @@
 -- `tree_search::nearest::by_distance`: the goals that the search leaves. Assumes nothing.
-use mathlib.Core.Path.{refl}
+use mathlib.Core.Path.{ap, ◌∙◌}
+use Prim.Native.Nat.{ℕ, ◌+◌}
 use native.Mathlib.Omega.{arith}
-use lib.ListN.{replicate}
-use Rattle.trees.proofs.Collects.{said_no, said_yes}
-use Rattle.trees.proofs.Tables.{nears_more, nears_none, ordered_all}
-use Rattle.tree.specs.Depths.{place, sides}
-use Rattle.tree.proofs.Depths.{ordered_deep, ordered_flat}
+use lib.ListN.{replicate, take}
+use Rattle.std.proofs.Common.{length-take-le}
+use Rattle.model.specs.Boxes.{node_distance, part}
+use Rattle.model.specs.Calls.{ways}
+use Rattle.trees.proofs.Tables.{front_of, nears_read, ordered_all}
 use Rattle.tree_search.proofs.nearest.by_distance.Goals as goal
 
-pub returns-then-not-deep : goal.returns-then-not-deep
-returns-then-not-deep c = ordered_flat c.args.deep (sides c.args.deep c.args.bounds) (place c.args.deep c.args.target) _ _ _ _ (said_no _ _ refl c.if-not-deep.true-raw) (ordered_all (sides c.args.deep c.args.bounds) (place c.args.deep c.args.target) 4 _ (replicate 4 0) _ _ (omega arith) (nears_more (sides c.args.deep c.args.bounds) _ _ 0 3 _ _ c.near-a.ensures refl (nears_more (sides c.args.deep c.args.bounds) _ _ 1 2 _ _ c.near-b.ensures refl (nears_more (sides c.args.deep c.args.bounds) _ _ 2 1 _ _ c.near-c.ensures refl (nears_more (sides c.args.deep c.args.bounds) _ _ 3 0 _ _ c.near-d.ensures refl (nears_none _ _ 4))))) refl c.order_children.ensures)
-
 pub returns : goal.returns
-returns c = ordered_deep c.args.deep (sides c.args.deep c.args.bounds) (place c.args.deep c.args.target) _ _ (said_yes _ _ refl c.if-not-deep.false-raw) (ordered_all (sides c.args.deep c.args.bounds) (place c.args.deep c.args.target) 8 _ (replicate 8 0) _ _ (omega arith) (nears_more (sides c.args.deep c.args.bounds) _ _ 0 7 _ _ c.near-a.ensures refl (nears_more (sides c.args.deep c.args.bounds) _ _ 1 6 _ _ c.near-b.ensures refl (nears_more (sides c.args.deep c.args.bounds) _ _ 2 5 _ _ c.near-c.ensures refl (nears_more (sides c.args.deep c.args.bounds) _ _ 3 4 _ _ c.near-d.ensures refl (nears_more (sides c.args.deep c.args.bounds) _ _ 4 3 _ _ c.near-e.ensures refl (nears_more (sides c.args.deep c.args.bounds) _ _ 5 2 _ _ c.near-f.ensures refl (nears_more (sides c.args.deep c.args.bounds) _ _ 6 1 _ _ c.near-g.ensures refl (nears_more (sides c.args.deep c.args.bounds) _ _ 7 0 _ _ c.near-h.ensures refl (nears_none _ _ 8))))))))) refl c.order_children-2.ensures)
+returns g c =
+    let few = g.met.R.Tree.few_ways in
+    let near = ap (λ (w : ℕ). take w c.loop-c.dist) c.ways-most.ensures
+    ∙ nears_read (g.R.Region.sides c.args.bounds) (g.R.Point.Place.place c.args.target) 0 (ways g.R.Tree.kind) c.loop-c.dist (omega (arith, few, c.loop-c.invariant.0))
+    (λ j h. c.loop-c.invariant.1 j (omega (arith, h, c.loop-c-test.false, c.ways-most.ensures)) ∙ ap (λ (n : ℕ). node_distance (part (g.R.Region.sides c.args.bounds) n) (g.R.Point.Place.place c.args.target)) {x = j} {y = 0 + j} (omega arith)) in
+    let all = length-take-le c.ways-most.result (replicate 8 0) (omega (arith, few, c.ways-most.ensures)) ∙ c.ways-most.ensures in
+    let both = ordered_all (g.R.Region.sides c.args.bounds) (g.R.Point.Place.place c.args.target) (ways g.R.Tree.kind) _ _ _ _ few near all c.order_children.ensures in (
+      front_of _ _ _ (c.order_children.auto.dist ∙ length-take-le c.ways-most.result c.loop-c.dist (omega (arith, few, c.ways-most.ensures, c.loop-c.invariant.0)) ∙ c.ways-most.ensures) ∙ both.0,
+      front_of _ _ _ (c.order_children.auto.item ∙ all) ∙ both.1,
+    )

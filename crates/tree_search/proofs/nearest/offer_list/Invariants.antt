@@ -1,13 +1,16 @@
--- `tree_search::nearest::offer_list`: what its loops keep, and what grows less. Assumes nothing.
+-- `tree_search::nearest::offer_list`: what its loops keep. Assumes nothing.
+use lib.ListN.{length}
 use Rattle.words.specs.Words.{words}
+use Rattle.pool.specs.Read.{chain}
 use Rattle.trees.specs.Points.{point_at}
 use Rattle.trees.proofs.Seeks.{candidate}
 use Rattle.trees.proofs.Tables.{Offering}
-use Rattle.tree.specs.Depths.{kind, place}
+use Rattle.tree.specs.Lists.{rest}
+use Rattle.tree_search.specs.Tables.{SameTable}
 use Rattle.tree_search.proofs.nearest.offer_list.Given as goal
 
-abbrev pub invariant-loop-left : goal.invariant-loop-left
-invariant-loop-left l = Offering l.k (candidate (point_at (kind l.deep).axes (words l.points)) (place l.deep l.target)) (words l.links) l.initial.left l.initial.p l.initial.dist l.initial.item l.initial.m l.dist l.item l.left l.p l.m
-
-abbrev pub decreases-loop-left : goal.decreases-loop-left
-decreases-loop-left l = l.left
+abbrev pub invariant-loop-p : goal.invariant-loop-p
+invariant-loop-p g l = record {
+  same : SameTable l.fn.table l.table;
+  offering : Offering l.fn.table.k (candidate (point_at g.R.Tree.kind.axes (words l.tree.points.now)) (g.R.Point.Place.place l.target)) (chain (length (words l.tree.links.now)) (words l.tree.links.now) l.head) l.fn.table.dist.now l.fn.table.item.now l.fn.table.count (rest l.p-iterator) l.table.dist.now l.table.item.now l.table.count;
+}

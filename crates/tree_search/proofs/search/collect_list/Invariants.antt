@@ -1,13 +1,11 @@
--- `tree_search::search::collect_list`: what its loops keep, and what grows less. Assumes nothing.
+-- `tree_search::search::collect_list`: what its loops keep. Assumes nothing.
+use lib.ListN.{length}
 use Rattle.words.specs.Words.{words}
+use Rattle.pool.specs.Read.{chain}
 use Rattle.trees.specs.Points.{point_at}
 use Rattle.trees.proofs.Collects.{Listing}
-use Rattle.tree_search.specs.Questions.{takes}
-use Rattle.tree.specs.Depths.{kind}
+use Rattle.tree.specs.Lists.{rest}
 use Rattle.tree_search.proofs.search.collect_list.Given as goal
 
-abbrev pub invariant-loop-left : goal.invariant-loop-left
-invariant-loop-left l = Listing (λ p. takes l.deep l.q (point_at (kind l.deep).axes (words l.points) p).at) (words l.links) l.initial.left l.initial.p l.initial.found l.initial.m l.found l.left l.p l.m
-
-abbrev pub decreases-loop-left : goal.decreases-loop-left
-decreases-loop-left l = l.left
+abbrev pub invariant-loop-p : goal.invariant-loop-p
+invariant-loop-p g l = Listing (λ p. g.Q.Question.takes l.q (point_at g.R.Tree.kind.axes (words l.tree.points.now) p).at) (chain (length (words l.tree.links.now)) (words l.tree.links.now) l.head) l.fn.found l.n (rest l.p-iterator) l.found l.m

@@ -1,0 +1,13 @@
+-- `calls::contains`: the goals that the search leaves. Assumes nothing.
+use Rattle.model.specs.Calls.{number}
+use Rattle.pieces.specs.Views.{seen}
+use Rattle.tree_sound.proofs.Calls.{asks_not, asks_held}
+use Rattle.calls.proofs.contains.Goals as goal
+
+pub returns-then-not-sound : goal.returns-then-not-sound
+unfolding number
+returns-then-not-sound g c = asks_not g.R.Tree.kind (seen c.args.tree.now) _ c.sound.ensures c.if-not-sound.true-raw _
+
+pub returns : goal.returns
+unfolding number
+returns g c = asks_held g.R.Tree.kind (seen c.args.tree.now) _ c.sound.ensures c.if-not-sound.false-raw _ _ _ c.contains.ensures

@@ -1,6 +1,0 @@
--- `geometry::space::Cube::child_index`: the goals that the search leaves. Assumes nothing.
-use Rattle.axis.proofs.Axes.{route_last, route_more}
-use Rattle.geometry.proofs.space.Cube.child_index.Goals as goal
-
-pub returns : goal.returns
-returns c = route_more _ _ _ _ _ _ c.turn-x.ensures.0 (route_more _ _ _ _ _ _ c.turn-y.ensures.0 (route_last _ _ _ c.turn-z.ensures.0))

@@ -1,6 +1,0 @@
--- `geometry::space::Point3D::same`: the goals that the search leaves. Assumes nothing.
-use Rattle.axis.proofs.Axes.{same_last, same_more}
-use Rattle.geometry.proofs.space.Point3D.same.Goals as goal
-
-pub returns : goal.returns
-returns c = same_more _ _ _ _ _ (same_more _ _ _ _ _ (same_last _ _))

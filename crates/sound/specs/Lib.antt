@@ -1,0 +1,2 @@
+-- Marks as numbers. Definitions only.
+pub mod Flags

@@ -1,0 +1,2 @@
+-- What the answers of the way down mean. Definitions only.
+pub mod Spots

@@ -1,0 +1,2 @@
+-- What the soundness test's leaves mean. Definitions only.
+pub mod Areas
