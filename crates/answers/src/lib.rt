@@ -14,14 +14,22 @@ ghost use Rattle.pieces.specs.Replies.{count_in, number_in};
 
 use floats::to_bits;
 use pieces::{Refusal, base, payload};
-use words::{get_float, put_bytes};
+use words::get_float;
+
+// Sets the bytes from k on, which are there.
+fn store<const N: usize>(t: &mut [u8], k: usize, bytes: [u8; N])
+    requires { k + N ≤ length t.old }
+    ensures { t.new ≡ sets t.old k bytes.entry }
+{
+    t[k..k + N].copy_from_slice(&bytes);
+}
 
 // Writes float number i, which there is room for.
 fn put_float(t: &mut [u8], i: usize, x: f64)
     requires { i < length t.old / 8 }
     ensures { t.new ≡ sets t.old (8 * i) (bytes 8 (to_bits binary64 x)) }
 {
-    put_bytes(t, 8 * i, to_bits(x).to_le_bytes());
+    store(t, 8 * i, to_bits(x).to_le_bytes());
 }
 
 // How many points both slices have room for.
@@ -57,7 +65,7 @@ fn write(axes: u8, points: &[u8], found: &[u32], coords: &mut [u8], payloads: &m
     for (j, p) in found.iter().enumerate() {
         let m = payload(axes, points, *p);
         put_place(coords, j, axes, points, *p);
-        put_bytes(payloads, 4 * j, m.to_le_bytes());
+        store(payloads, 4 * j, m.to_le_bytes());
     }
 }
 

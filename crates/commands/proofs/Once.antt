@@ -2,6 +2,7 @@
 use Prim.Native.Nat.{ℕ}
 use mathlib.Core.Path.{◌≡◌, refl, sym, ap, ◌∙◌}
 use mathlib.Core.List.{List}
+use Rattle.std.specs.Prelude.{Option, None, Some, option_map}
 use lib.Ieee.{Float, nan}
 use lib.ListN.{get_or}
 use Rattle.model.specs.Boxes.{Side, side}
@@ -45,6 +46,13 @@ module _ {R P : Type 0} (sides : R → List Side) (place : P → List Float) (bo
   once : (c d : Command R P) → call_in sides place c ≡ call_in sides place d → c ≡ d
   once c d e = back c ∙ ap command_of e ∙ sym (back d)
 
+  back_from : (a : Option (Command R P)) → a ≡ option_map command_of (option_map (call_in sides place) a)
+  back_from None = refl
+  back_from (Some c) = ap Some (back c)
+
+  answered : (a b : Option (Command R P)) → option_map (call_in sides place) a ≡ option_map (call_in sides place) b → a ≡ b
+  answered a b e = back_from a ∙ ap (option_map command_of) e ∙ sym (back_from b)
+
 -- coordinate, corner and extent number i, and NaN where there is none
 abbrev at : List Float → ℕ → Float
 at p i = get_or p i nan
@@ -61,3 +69,10 @@ command_once_quad = once sides2 place2 (λ b. record { x = corner b 0; y = corne
 
 pub command_once_oct : (c d : Command Cube Point3D) → call_in sides3 place3 c ≡ call_in sides3 place3 d → c ≡ d
 command_once_oct = once sides3 place3 (λ b. record { x = corner b 0; y = corner b 1; z = corner b 2; width = extent b 0; height = extent b 1; depth = extent b 2 }) (λ p. record { x = at p 0; y = at p 1; z = at p 2 }) (λ b. refl) (λ p. refl)
+
+-- two answers that are promised of a record are one, also where it is not understood
+pub answer_once_quad : (a b : Option (Command Rectangle Point2D)) → option_map (call_in sides2 place2) a ≡ option_map (call_in sides2 place2) b → a ≡ b
+answer_once_quad = answered sides2 place2 (λ b. record { x = corner b 0; y = corner b 1; width = extent b 0; height = extent b 1 }) (λ p. record { x = at p 0; y = at p 1 }) (λ b. refl) (λ p. refl)
+
+pub answer_once_oct : (a b : Option (Command Cube Point3D)) → option_map (call_in sides3 place3) a ≡ option_map (call_in sides3 place3) b → a ≡ b
+answer_once_oct = answered sides3 place3 (λ b. record { x = corner b 0; y = corner b 1; z = corner b 2; width = extent b 0; height = extent b 1; depth = extent b 2 }) (λ p. record { x = at p 0; y = at p 1; z = at p 2 }) (λ b. refl) (λ p. refl)

@@ -1,13 +1,14 @@
 -- The command of a record, from its word and the numbers that were read. Over any tree's boxes and points.
-use Prim.Native.Nat.{ℕ, ◌+◌, ◌-◌, ◌*◌, ◌≤◌, ◌<◌}
+use Prim.Native.Nat.{ℕ, suc, ◌+◌, ◌-◌, ◌*◌, ◌≤◌, ◌<◌}
 use mathlib.Core.Path.{◌≡◌, refl, sym, ap, ap₂, ◌∙◌, subst}
 use mathlib.Core.Bool.{false}
-use mathlib.Core.List.{List, zip_with}
+use mathlib.Core.List.{List, [], ◌∷◌, zip_with}
 use Rattle.std.specs.Prelude.{Option, None, Some, IfSome, IfNone}
 use Rattle.std.specs.Option.{unwrap_or}
 use native.Mathlib.Omega.{arith}
 use lib.Ieee.{Float, nan}
 use lib.ListN.{length, get_or, take, drop}
+use lib.Seq.{drop-cons}
 use Rattle.std.proofs.lemmas.List.{drop-take, get_or-take, take-take}
 use Rattle.model.specs.Boxes.{Side}
 use Rattle.model.specs.Calls as calls
@@ -21,6 +22,20 @@ use Rattle.record.proofs.Parts.{found_at}
 use Rattle.commands.specs.Commands.{call_in}
 use Rattle.commands.specs.declared.Command.{Command}
 use Rattle.commands.specs.declared.Command.TheVariants.{Create, Insert, Delete, Contains, Range, Knn, Box, Len, Clear}
+
+-- ---- points of three numbers, of which as many count as there are axes
+module _ (l : List Float) (d : Float) where
+  one_then : (n k j : ℕ) (t : List Float) → k < length l → j ≡ suc k → t ≡ take n (drop j l) → get_or l k d ∷ t ≡ take (suc n) (drop k l)
+  one_then n k j t h e f = ap (λ (u : List Float). get_or l k d ∷ u) (f ∙ ap (λ (i : ℕ). take n (drop i l)) e) ∙ ap (take (suc n)) (sym (drop-cons l k d h))
+
+  three_are : (k : ℕ) → k + 3 ≤ length l → get_or l k d ∷ get_or l (k + 1) d ∷ get_or l (k + 2) d ∷ [] ≡ take 3 (drop k l)
+  three_are k h = one_then 2 k (k + 1) _ (omega arith) (omega arith) (one_then 1 (k + 1) (k + 2) _ (omega arith) (omega arith) (one_then 0 (k + 2) (k + 3) [] (omega arith) (omega arith) refl))
+
+  pub first_of : (axes : ℕ) → axes ≤ 3 → 3 ≤ length l → take axes (get_or l 0 d ∷ get_or l 1 d ∷ get_or l 2 d ∷ []) ≡ take axes l
+  first_of axes few h = ap (take axes) (three_are 0 h) ∙ take-take axes 3 l few
+
+  pub next_of : (axes a : ℕ) → axes ≤ 3 → a + 3 ≤ length l → a ≡ axes → take axes (get_or l a d ∷ get_or l (a + 1) d ∷ get_or l (a + 2) d ∷ []) ≡ take axes (take (6 - a) (drop a l))
+  next_of axes a few h e = ap (take axes) (three_are a h) ∙ take-take axes 3 (drop a l) few ∙ sym (take-take axes (6 - a) (drop a l) (omega arith))
 
 -- ---- the call of each word, from the points of the numbers
 -- what a command is of a word and the numbers that were read

@@ -1,10 +1,15 @@
 -- What a command says: document 01, "Each record becomes one command that carries its numbers." Definitions only; `sides` and `place` say which boxes and points
 -- of the model the code's are.
-use Rattle.std.specs.Prelude.{List, Float}
+use Rattle.std.specs.Prelude.{ℕ, cond, eqb, List, Float}
 use Rattle.model.specs.Boxes.{Side}
 use Rattle.model.specs.Calls as calls
+use Rattle.record.specs.Commands.{word_oct, word_quad}
 use Rattle.commands.specs.declared.Command.{Command}
 use Rattle.commands.specs.declared.Command.TheVariants.{Create, Insert, Delete, Contains, Range, Knn, Box, Len, Clear}
+
+-- "The octree's program has oct for quad": the word that makes a tree of a kind, which is the octree where there are three axes
+abbrev pub made_for : calls.Kind → List ℕ
+made_for k = cond (eqb k.axes 3) word_oct word_quad
 
 -- the call of each case. A search is lent places for as many points as a tree can hold
 unfoldable pub call_in : {R P : Type 0} (sides : R → List Side) (place : P → List Float) → Command R P → calls.Call

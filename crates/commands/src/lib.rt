@@ -1,11 +1,11 @@
 // The commands of both programs, and the one that a record says.
 #![tactic(auto)]
 
-ghost use Rattle.std.specs.Prelude.{false, ◌≡◌, ◌+◌, ◌*◌, ◌≤◌, List, ℕ, option_map};
+ghost use Rattle.std.specs.Prelude.{false, ◌≡◌, ◌+◌, ◌*◌, ◌≤◌, List, ℕ, length, option_map, refl, take};
 ghost use Rattle.model.specs.Calls.{ways};
 ghost use Rattle.record.specs.Commands.{understood, word_oct, word_quad};
 ghost use Rattle.record.specs.Text.{has};
-ghost use Rattle.commands.specs.Commands.{call_in};
+ghost use Rattle.commands.specs.Commands.{call_in, made_for};
 ghost use Rattle.record.proofs.Quotes.{plain_oct, plain_quad};
 ghost use Rattle.std.proofs.Common.{arith};
 
@@ -22,6 +22,17 @@ pub trait Program: Tree {
 
     fn word() -> &'static [u8]
         ensures { result.now ≡ made };
+
+    // What the program says where its input cannot be read: one line, which begins with the word, so that one write can put it out whole.
+    fn unread() -> &'static [u8]
+        ensures { take (length made) result.now ≡ made };
+
+    // The same, where its answers cannot be written.
+    fn unwritten() -> &'static [u8]
+        ensures { take (length made) result.now ≡ made };
+
+    // The word is that of document 01 for this kind of tree.
+    ghost right_word: { made ≡ made_for Self.kind };
 
     // What the reading of a record asks of the word and of the axes.
     ghost plain: { has 34 made ≡ false };
@@ -41,6 +52,16 @@ impl Program for Rectangle {
         b"quad"
     }
 
+    fn unread() -> &'static [u8] {
+        b"quad: the input could not be read\n"
+    }
+
+    fn unwritten() -> &'static [u8] {
+        b"quad: answers could not be written\n"
+    }
+
+    ghost right_word = { refl };
+
     ghost plain = { plain_quad };
 
     ghost some_axes = { Prim.omega arith };
@@ -56,6 +77,16 @@ impl Program for Cube {
     fn word() -> &'static [u8] {
         b"oct"
     }
+
+    fn unread() -> &'static [u8] {
+        b"oct: the input could not be read\n"
+    }
+
+    fn unwritten() -> &'static [u8] {
+        b"oct: answers could not be written\n"
+    }
+
+    ghost right_word = { refl };
 
     ghost plain = { plain_oct };
 
@@ -89,9 +120,9 @@ pub fn parse<R: Program>(s: &[u8]) -> Option<Command<R, R::Point>>
     let mut numbers: [f64; 6] = [0.0; 6];
     let whole = numbers_of(&s[end..], word, R::axes(), &mut numbers)?;
     let axes = R::axes() as usize;
-    let point = R::point(&numbers);
+    let point = R::point(numbers[0], numbers[1], numbers[2]);
     // The extents, or a radius, stand after the coordinates.
-    let extent = R::point(&numbers[axes..]);
+    let extent = R::point(numbers[axes], numbers[axes + 1], numbers[axes + 2]);
     let command = match word {
         Word::Create => Command::Create(R::region(point, extent), whole),
         Word::Insert => Command::Insert(point, whole),

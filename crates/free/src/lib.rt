@@ -50,6 +50,6 @@ pub fn give_group(nodes: &mut [u8], ways: u8, k: u32)
 {
     let h = get(nodes, 0);
     let j = child(ways, k, 0);
-    set_field(nodes, j, Word::Group, h);
+    set_field(nodes, j, Word::Group as u8, h);
     put(nodes, 0, k);
 }

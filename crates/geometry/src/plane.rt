@@ -83,6 +83,7 @@ impl Region for Rectangle {
     }
 
     // The quadrant with the number i, of which only the two lowest bits count.
+    #[inline(always)]
     fn child(self, i: usize) -> Rectangle {
         let east = self.x_side().half(i % 2 == 1);
         let south = self.y_side().half(i / 2 % 2 == 1);

@@ -98,6 +98,7 @@ impl Region for Cube {
     }
 
     // The octant with the number i, of which only the three lowest bits count.
+    #[inline(always)]
     fn child(self, i: usize) -> Cube {
         let x = self.x_side().half(i % 2 == 1);
         let y = self.y_side().half(i / 2 % 2 == 1);

@@ -34,10 +34,10 @@ pub fn has_groups(nodes: &[u8], ways: u8, need: u8) -> bool
 pub fn clear_node(nodes: &mut [u8], i: usize)
     ensures { words nodes.new ≡ cleared (words nodes.old) i }
 {
-    set_field(nodes, i, Word::Group, 0);
-    set_field(nodes, i, Word::First, 0);
-    set_field(nodes, i, Word::Last, 0);
-    set_field(nodes, i, Word::Count, 0);
+    set_field(nodes, i, Word::Group as u8, 0);
+    set_field(nodes, i, Word::First as u8, 0);
+    set_field(nodes, i, Word::Last as u8, 0);
+    set_field(nodes, i, Word::Count as u8, 0);
 }
 
 // Makes some nodes from i on empty.
@@ -94,7 +94,7 @@ pub fn split(pool: &mut Pool<'_>, i: usize, turns: &[u8]) -> u32
     let head = first(nodes, i);
     let k = take_group(nodes, ways);
     clear_nodes(nodes, child(ways, k, 0), ways);
-    set_field(nodes, i, Word::Group, k);
+    set_field(nodes, i, Word::Group as u8, k);
     deal(pool, k, head, turns);
     k
 }
@@ -122,9 +122,9 @@ fn hook(links: &mut [u8], b: u32, f: u32)
 fn lay(nodes: &mut [u8], i: usize, a: u32, b: u32)
     ensures { words nodes.new ≡ laid (words nodes.old) i a b }
 {
-    set_field(nodes, i, Word::Group, 0);
-    set_field(nodes, i, Word::First, a);
-    set_field(nodes, i, Word::Last, b);
+    set_field(nodes, i, Word::Group as u8, 0);
+    set_field(nodes, i, Word::First as u8, a);
+    set_field(nodes, i, Word::Last as u8, b);
 }
 
 // Makes node i undivided: it gets the lists of the children of its group k, joined in the order of their numbers that is given, and the group is free.

@@ -35,7 +35,14 @@ impl Table {
         ensures table { Written (kept self.count self.k distance place self.dist self.item) self.dist self.item result.dist result.item }
         ensures model { ByModel self.count self.k distance place self.dist self.item result.dist result.item result.count }
     {
-        offer_to(&mut self, distance, place);
+        self.count = knn::offer(
+            &mut self.dist,
+            &mut self.item,
+            self.count,
+            self.k as usize,
+            distance,
+            place,
+        );
         self
     }
 }
@@ -44,12 +51,5 @@ impl Table {
 pub fn offer_to(table: &mut Table, distance: f64, place: u32)
     ensures { Offered table.old.count table.old.k distance place table.old.dist table.old.item table.new.dist table.new.item table.new.count table.new.k }
 {
-    table.count = knn::offer(
-        &mut table.dist,
-        &mut table.item,
-        table.count,
-        table.k as usize,
-        distance,
-        place,
-    );
+    *table = table.offer(distance, place);
 }

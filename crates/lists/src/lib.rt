@@ -15,7 +15,7 @@ use words::put;
 fn end_with(nodes: &mut [u8], i: usize, p: u32)
     ensures { words nodes.new ≡ ended (words nodes.old) i p }
 {
-    set_field(nodes, i, Word::Last, p);
+    set_field(nodes, i, Word::Last as u8, p);
     count_up(nodes, i);
 }
 
@@ -30,7 +30,7 @@ pub fn append(pool: &mut Pool<'_>, i: usize, p: u32)
     let b = last(nodes, i);
     put(links, p as usize, 0);
     if b == 0 {
-        set_field(nodes, i, Word::First, p);
+        set_field(nodes, i, Word::First as u8, p);
         end_with(nodes, i, p);
         return;
     }
@@ -44,7 +44,7 @@ fn relast(nodes: &mut [u8], i: usize, after: u32, b: u32)
     ensures { words nodes.new ≡ relasted (words nodes.old) i after b }
 {
     if after == 0 {
-        set_field(nodes, i, Word::Last, b);
+        set_field(nodes, i, Word::Last as u8, b);
     }
 }
 
@@ -60,7 +60,7 @@ pub fn cut(pool: &mut Pool<'_>, i: usize, p: u32, b: u32)
     count_down(nodes, i);
     relast(nodes, i, after, b);
     if b == 0 {
-        set_field(nodes, i, Word::First, after);
+        set_field(nodes, i, Word::First as u8, after);
         return;
     }
     put(links, b as usize, after);

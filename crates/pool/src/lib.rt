@@ -29,23 +29,30 @@ pub enum Word {
     Count,
 }
 
-// The number of a node's word, and of one that no slice has where the number would wrap.
-fn place_of(i: usize, f: Word) -> usize
-    ensures { result ≡ min (4 * i + word_of f) 18446744073709551615 }
+// Which word of a node it is.
+fn number(f: Word) -> u8
+    ensures { result ≡ word_of f }
 {
-    i.saturating_mul(4).saturating_add(f as usize)
+    f as u8
+}
+
+// The number of word f of node i, and of one that no slice has where the number would wrap.
+fn place_of(i: usize, f: u8) -> usize
+    ensures { result ≡ min (4 * i + f) 18446744073709551615 }
+{
+    i.saturating_mul(4).saturating_add(usize::from(f))
 }
 
 // Word f of node i.
 fn field(nodes: &[u8], i: usize, f: Word) -> u32
     ensures { result ≡ get_or (words nodes.now) (4 * i + word_of f) 0 }
 {
-    get(nodes, place_of(i, f))
+    get(nodes, place_of(i, number(f)))
 }
 
-// Sets word f of node i.
-pub fn set_field(nodes: &mut [u8], i: usize, f: Word, v: u32)
-    ensures { words nodes.new ≡ set (words nodes.old) (4 * i + word_of f) v }
+// Sets the word f places from the first of node i: one of its own below 4, and of a later node from there on.
+pub fn set_field(nodes: &mut [u8], i: usize, f: u8, v: u32)
+    ensures { words nodes.new ≡ set (words nodes.old) (4 * i + f) v }
 {
     put(nodes, place_of(i, f), v);
 }
@@ -99,7 +106,7 @@ pub fn count_up(nodes: &mut [u8], i: usize)
     ensures { words nodes.new ≡ counted (words nodes.old) i }
 {
     let v = count(nodes, i);
-    set_field(nodes, i, Word::Count, v.wrapping_add(1));
+    set_field(nodes, i, Word::Count as u8, v.wrapping_add(1));
 }
 
 // Counts one point less in node i.
@@ -108,5 +115,5 @@ pub fn count_down(nodes: &mut [u8], i: usize)
     ensures { words nodes.new ≡ lowered (words nodes.old) i }
 {
     let v = count(nodes, i);
-    set_field(nodes, i, Word::Count, v.saturating_sub(1));
+    set_field(nodes, i, Word::Count as u8, v.saturating_sub(1));
 }

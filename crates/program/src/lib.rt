@@ -14,9 +14,10 @@ use std::io::{Read, Write};
 use tree::kind::Tree;
 use turns::{Next, Place, work};
 
-// Says on standard error which program failed, and how. Where that fails too, nothing is left to tell.
-fn tell<R: Program, E: Write>(errors: &mut E, how: &[u8]) {
-    let _told = errors.write_all(R::word()).is_ok() && errors.write_all(how).is_ok();
+// Says on standard error how a program failed. Where that fails too, nothing is left to tell.
+// The whole line is one write, so that another program's line in the same log cannot cut it.
+fn tell<E: Write>(errors: &mut E, line: &[u8]) {
+    let _told = errors.write_all(line).is_ok();
 }
 
 // Reads, where that comes next, and says how many bytes came: none at the end of the input. There is room for one at least.
@@ -33,7 +34,7 @@ fn fetch<R: Program, I: Read, E: Write>(
         Next::Read => match input.read(text) {
             Ok(got) => got,
             Err(_) => {
-                tell::<R, E>(errors, b": the input could not be read\n");
+                tell(errors, R::unread());
                 0
             }
         },
@@ -45,7 +46,7 @@ fn fetch<R: Program, I: Read, E: Write>(
 fn hand_on<R: Program, O: Write, E: Write>(output: &mut O, errors: &mut E, answers: &[u8]) -> bool {
     let written = output.write_all(answers).is_ok();
     if !written {
-        tell::<R, E>(errors, b": answers could not be written\n");
+        tell(errors, R::unwritten());
     }
     written
 }

@@ -1,5 +1,5 @@
 -- Laws of one field as a number. Assumes nothing.
-use Prim.Native.Nat.{ℕ, ◌+◌, ◌-◌, ◌*◌, ◌^◌, ◌≤◌, ◌<◌}
+use Prim.Native.Nat.{ℕ, ◌+◌, ◌-◌, ◌*◌, ◌%◌, ◌^◌, ◌≤◌, ◌<◌}
 use mathlib.Core.Path.{◌≡◌, refl, sym, ap, ◌∙◌, subst}
 use mathlib.Core.Bool.{Bool, true, false, not, ◌&&◌, ◌||◌, and-false, and-eq-true_iff}
 use mathlib.Core.List.{List, [], ◌∷◌}
@@ -85,6 +85,10 @@ glyph_is d = go (ltb d 10) refl
     go : (t : Bool) → ltb d 10 ≡ t → 48 + d + 7 * bool_byte (ltb 9 d) ≡ glyph d
     go true q = let h = ltb-true d 10 q in simp (q, le-ltb 9 d (omega arith)) (omega arith)
     go false q = let h = ltb-false d 10 q in simp (q, lt-ltb 9 d (omega arith)) (omega arith)
+
+-- a digit is its own low digit
+pub low_glyph : (d : ℕ) → d < 16 → glyph (d % 16) ≡ glyph d
+low_glyph d h = ap glyph (omega arith)
 
 -- ---- digits one after the other
 

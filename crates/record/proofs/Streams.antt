@@ -7,10 +7,10 @@ use mathlib.Core.List.{List, [], ◌∷◌, ◌++◌, append-nil}
 use Rattle.std.specs.Prelude.{Option, None, Some, MatchOption, unwrap_or}
 use native.Mathlib.Nat.{not-suc-le-zero}
 use native.Mathlib.Omega.{arith}
-use lib.ListN.{length, get_or, take, drop, get_or-append, length-append, length-take, length-drop}
-use lib.Seq.{take-append-le, drop-append-le, take-take, get_or-take, get_or-drop, drop-drop, length-take-le, take-nil, take_all}
+use lib.ListN.{length, get_or, take, drop, get_or-append, length-append, length-take, length-drop, drop_of_length-le}
+use lib.Seq.{take-append-le, drop-append-le, take-take, get_or-take, get_or-drop, drop-drop, length-take-le, take-nil, take-length, take_all}
 use lib.Pointwise.{pointwise}
-use lib.Dec.{eqb}
+use lib.Dec.{eqb, leb}
 use borrow.Author.Tests.{lt-leb, le-leb, eq-eqb, ne_eqb}
 use denote.Bor.{Bor}
 use Rattle.model.specs.Calls.{Call}
@@ -43,6 +43,49 @@ pub begun_is : (b : Bool) (s : List ℕ) (o : Option (Bor (List ℕ))) (d r : Bo
 unfolding begun unmarked
 begun_is b s None d r L e q f m = ap (λ (x : Bor (List ℕ)). x.now) q ∙ f ∙ simp (e, sym (same_is (take 3 s) mark) ∙ m)
 begun_is b s (Some x) d r L e q f m = ap (λ (x : Bor (List ℕ)). x.now) q ∙ m.1 ∙ simp (e, sym (same_is (take 3 s) mark) ∙ m.0)
+
+-- what is left behind some first bytes ends where all of them end
+drop_end : (k : ℕ) (s : List ℕ) → drop (length s - length (drop k s)) s ≡ drop k s
+drop_end k s =
+    by_lt k (length s)
+    (λ h. ap (λ (j : ℕ). drop j s) {x = length s - length (drop k s)} {y = k} (omega (arith, length-drop k s)))
+    (λ h. drop_of_length-le s (omega (arith, length-drop k s)) ∙ sym (drop_of_length-le s h))
+
+begun_by : (t : Bool) (s : List ℕ) → (drop (length s - length (cond t (drop 3 s) s)) s ≡ cond t (drop 3 s) s) × (length (cond t (drop 3 s) s) ≤ length s)
+begun_by true s = (drop_end 3 s, omega (arith, length-drop 3 s))
+begun_by false s = (ap (λ (j : ℕ). drop j s) {x = length s - length s} {y = 0} (omega arith), omega arith)
+
+begun_end : (start : Bool) (s : List ℕ) → (drop (length s - length (begun start s)) s ≡ begun start s) × (length (begun start s) ≤ length s)
+unfolding begun unmarked
+begun_end true s = begun_by (same (take 3 s) mark) s
+begun_end false s = begun_by false s
+
+pub begun_shorter : (start : Bool) (s left : List ℕ) → left ≡ begun start s → length left ≤ length s
+begun_shorter start s left e = omega (arith, ap length e, (begun_end start s).1)
+
+strip_by_take : (t : Bool) (s : List ℕ) → (take (length (cond t (take (length s - 1) s) s)) s ≡ cond t (take (length s - 1) s) s) × (length (cond t (take (length s - 1) s) s) ≤ length s)
+strip_by_take true s = (ap (λ (j : ℕ). take j s) (length-take-le (length s - 1) s (omega arith)), omega (arith, length-take (length s - 1) s))
+strip_by_take false s = (take-length s, omega arith)
+
+strip_front : (s : List ℕ) → (take (length (strip s)) s ≡ strip s) × (length (strip s) ≤ length s)
+unfolding strip
+strip_front s = strip_by_take (eqb (get_or s (length s - 1) 0) 13) s
+
+-- the place of a record, by how many bytes are left after the mark and before the carriage return
+pub stands : (start : Bool) (s left r : List ℕ) → left ≡ begun start s → r ≡ strip left
+    → (length s - length left ≤ length s - length left + length r) × (length s - length left + length r ≤ length s) × (leb (length r) 128 ≡ leb (length (strip (begun start s))) 128)
+    × (take (length s - length left + length r - (length s - length left)) (drop (length s - length left) s) ≡ strip (begun start s)) × (drop (length s - length left) s ≡ begun start s)
+stands start s left r e f = (
+  omega arith,
+  omega (arith, begun_shorter start s left e, ap length f, (strip_front left).1),
+  ap (λ (t : List ℕ). leb (length t) 128) (f ∙ ap strip e),
+  ap (λ (j : ℕ). take j (drop (length s - length left) s)) {x = length s - length left + length r - (length s - length left)} {y = length r} (omega arith)
+      ∙ ap (take (length r)) (there ∙ sym e) ∙ ap (λ (t : List ℕ). take (length t) left) f ∙ (strip_front left).0 ∙ ap strip e,
+  there,
+)
+  where
+    there : drop (length s - length left) s ≡ begun start s
+    there = ap (λ (t : List ℕ). drop (length s - length t) s) e ∙ (begun_end start s).0
 
 -- a record stands at one place of its line
 pub stands_once : (start : Bool) (s : List ℕ) (from to from' to' : ℕ)

@@ -1,5 +1,5 @@
 // One field as a number.
-ghost use Rattle.std.specs.Prelude.{◌≡◌, ◌<◌};
+ghost use Rattle.std.specs.Prelude.{◌≡◌, ◌%◌};
 ghost use Rattle.record.specs.Numbers as Numbers;
 ghost use Rattle.record.specs.Numbers.{number_of, whole_of};
 
@@ -71,11 +71,11 @@ pub fn whole_of(s: &[u8]) -> Option<u32>
     Some(n as u32)
 }
 
-// The character of a digit.
+// The character of the low hex digit of d.
 pub fn glyph(d: u8) -> u8
-    requires { d < 16 }
-    ensures { result ≡ Numbers.glyph d }
+    ensures { result ≡ Numbers.glyph (d % 16) }
 {
-    let letter = (d > 9) as u8;
-    48 + d + 7 * letter
+    let low = d % 16;
+    let letter = (low > 9) as u8;
+    48 + low + 7 * letter
 }

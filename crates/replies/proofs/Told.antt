@@ -1,5 +1,5 @@
 -- What is printed from the bytes of an answer is the line of its points, over any number of axes. Assumes nothing.
-use mathlib.Core.Path.{◌≡◌, refl, sym, ap, ap₂, ◌∙◌, subst, subst⁻¹}
+use mathlib.Core.Path.{◌≡◌, refl, sym, ap, ap₂, ◌∙◌, subst}
 use mathlib.Core.Logic.{◌≢◌}
 use mathlib.Core.Bool.{cond}
 use mathlib.Core.List.{List, [], ◌∷◌, ◌++◌, append_assoc, map, flatten}
@@ -11,9 +11,8 @@ use lib.Dec.{eqb}
 use lib.Ieee.{Float, binary64, to_bits}
 use lib.ListN.{length, get_or, take, drop, length-append, length-drop}
 use lib.Seq.{sets-eq, take_at, drop_at, drop-drop, get_or-drop, length-sets}
-use Rattle.std.specs.Prelude.{Result, Ok, Err}
 use Rattle.model.specs.Calls.{Outcome, number}
-use Rattle.pieces.specs.Replies.{count_in, number_in, reply_of}
+use Rattle.pieces.specs.Replies.{reply_of}
 use Rattle.pieces.specs.declared.Refusal.{Refusal}
 use Rattle.pieces.specs.declared.Refusal.TheVariants.{Outside, Absent, NoCapacity, BadBoundary, Full, NoNodes, NoRoom, Unsound, NotUnderstood, NoTree}
 use Rattle.model.specs.Soundness.{All}
@@ -154,19 +153,13 @@ refused_not Unsound q = absurd (omega (arith, q))
 refused_not NotUnderstood q = absurd (omega (arith, q))
 refused_not NoTree q = absurd (omega (arith, q))
 
-module _ (axes : ℕ) (told : Result ℕ Refusal) (coords payloads' : List ℕ) (out out' : List ℕ) (at r : ℕ) where
-  -- by what the search told
-  abbrev pub Tells : Result ℕ Refusal → Type 0
-  Tells t = PutsTold axes coords payloads' (number_in t) (count_in t) out at out' r
+module _ (axes reply count : ℕ) (coords payloads' : List ℕ) (out out' : List ℕ) (at r : ℕ) where
+  pub told_refused : reply ≢ 0 → Puts 12 out at (decimal reply ++ crlf) out' r → PutsTold axes coords payloads' reply count out at out' r
+  told_refused e w = record { refused = λ d. w; done = λ d. absurd (e d); unlent = λ d. absurd (e d) }
 
-  pub told_refused : (e : Refusal) → told ≡ Err e → Puts 12 out at (decimal (number (reply_of e)) ++ crlf) out' r → Tells told
-  told_refused e q w = subst⁻¹ Tells q (record { refused = λ d. w; done = λ d. absurd (refused_not e d); unlent = λ d. absurd (refused_not e d) })
-
-  pub told_done : (count : ℕ) → told ≡ Ok count → count ≤ room_for axes coords payloads' → Puts (14 + (17 * axes + 11) * count) out at (decimal 0 ++ (field (decimal count) ++ points_from axes count coords payloads' 0) ++ crlf) out' r → Tells told
-  unfolding number
-  told_done count q l w = subst⁻¹ Tells q (record { refused = λ d. absurd (d refl); done = λ d k. w; unlent = λ d k. absurd (omega arith) })
+  pub told_done : reply ≡ 0 → count ≤ room_for axes coords payloads' → Puts (14 + (17 * axes + 11) * count) out at (decimal 0 ++ (field (decimal count) ++ points_from axes count coords payloads' 0) ++ crlf) out' r → PutsTold axes coords payloads' reply count out at out' r
+  told_done e l w = record { refused = λ d. absurd (d e); done = λ d k. w; unlent = λ d k. absurd (omega arith) }
 
   -- more points than were lent
-  pub told_unlent : (count : ℕ) → told ≡ Ok count → room_for axes coords payloads' < count → Wrote out at [] out' r → Tells told
-  unfolding number
-  told_unlent count q l w = subst⁻¹ Tells q (record { refused = λ d. absurd (d refl); done = λ d k. absurd (omega arith); unlent = λ d k. w })
+  pub told_unlent : reply ≡ 0 → room_for axes coords payloads' < count → Wrote out at [] out' r → PutsTold axes coords payloads' reply count out at out' r
+  told_unlent e l w = record { refused = λ d. absurd (d e); done = λ d k. absurd (omega arith); unlent = λ d k. w }

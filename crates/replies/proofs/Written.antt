@@ -26,6 +26,10 @@ unwritten o at = (sym (add-zero at), refl)
 pub puts_none : (room : ℕ) (o : List ℕ) (at : ℕ) (bytes : List ℕ) → length o < at + room → Puts room o at bytes o at
 puts_none room o at bytes h = record { wrote = λ l. absurd (omega arith); none = λ l. unwritten o at }
 
+-- who writes hands back what was written
+pub puts_out : {room : ℕ} {before bytes : List ℕ} {at r : ℕ} (o : List ℕ) {o' : List ℕ} → o ≡ o' → Puts room before at bytes o r → Puts room before at bytes o' r
+puts_out {room} {before} {bytes} {at} {r} o e h = subst (λ (x : List ℕ). Puts room before at bytes x r) e h
+
 pub puts_some : (room : ℕ) (o : List ℕ) (at : ℕ) (bytes o' : List ℕ) (r : ℕ) → at + room ≤ length o → Wrote o at bytes o' r → Puts room o at bytes o' r
 puts_some room o at bytes o' r h w = record { wrote = λ l. w; none = λ l. absurd (omega arith) }
 

@@ -14,7 +14,7 @@ ghost use Rattle.replies.specs.Programs.{IsSame, Puts, Wrote, longest};
 
 use answers::room;
 use lines::unmarked;
-use pieces::{Refusal, reply};
+use pieces::{Refusal, reply, tell};
 use record::numbers::glyph;
 use words::get;
 
@@ -27,6 +27,13 @@ fn places(n: u32) -> usize
     ensures few { result ≤ 10 }
 {
     n.max(1).ilog10() as usize + 1
+}
+
+// Whether there is room for the longest line from index `at` on.
+pub fn has_room(axes: u8, out: &[u8], at: usize) -> bool
+    ensures { result ≡ leb (at + longest axes) (length out.now) }
+{
+    14 + (17 * (axes as usize) + 11) * 512 <= out.len().saturating_sub(at)
 }
 
 // Bytes that were lent for answers, and where the next one goes.
@@ -65,12 +72,14 @@ impl<'a> Page<'a> {
         ensures wrote { Wrote self.old.out.now self.old.at (spelt 10 k n) self.new.out.now self.new.at }
         ensures end { self.new.at ≡ self.old.at + k }
     {
+        let out = &mut *self.out;
+        let at = self.at;
         let mut left = n;
         for i in (0..k).rev() {
-            self.out[self.at + i] = glyph((left % 10) as u8);
+            out[at + i] = glyph((left % 10) as u8);
             left /= 10;
         }
-        self.at += k;
+        self.at = at + k;
     }
 
     fn put_decimal(&mut self, n: u32)
@@ -114,12 +123,16 @@ impl<'a> Page<'a> {
             coords[j + 7],
         ];
         self.put_byte(SEPARATOR);
+        // Taken out once: for all that the compiler knows, a byte is written over a field of the page.
+        let out = &mut *self.out;
+        let mut at = self.at;
         for k in (0..8).rev() {
             let b = s[k];
-            self.out[self.at] = glyph(b / 16);
-            self.out[self.at + 1] = glyph(b % 16);
-            self.at += 2;
+            out[at] = glyph(b / 16);
+            out[at + 1] = glyph(b % 16);
+            at += 2;
         }
+        self.at = at;
     }
 
     // Writes point number j: its coordinates and its payload.
@@ -173,17 +186,32 @@ impl<'a> Page<'a> {
         self.out.len().saturating_sub(self.at)
     }
 
-    // Writes the line of a reply number alone.
-    pub fn put_reply(&mut self, answer: Result<(), Refusal>)
+    // Writes the line of a reply number alone, whatever number it is.
+    pub fn put_number(&mut self, reply: u32)
         ensures same { IsSame self.old.out self.new.out }
-        ensures puts { Puts 12 self.old.out.now self.old.at (decimal (number_in answer) ++ crlf) self.new.out.now self.new.at }
+        ensures puts { Puts 12 self.old.out.now self.old.at (decimal reply ++ crlf) self.new.out.now self.new.at }
         ensures within { self.old.at ≤ length self.old.out.now → self.new.at ≤ length self.old.out.now }
     {
         if self.room() < 12 {
             return;
         }
-        self.put_decimal(reply(answer));
-        self.put_end();
+        // A page of its own, which the compiler keeps in registers.
+        let mut page = Page {
+            out: &mut *self.out,
+            at: self.at,
+        };
+        page.put_decimal(reply);
+        page.put_end();
+        self.at = page.at;
+    }
+
+    // Writes the line of the reply number of an answer alone.
+    pub fn put_reply(&mut self, answer: Result<(), Refusal>)
+        ensures same { IsSame self.old.out self.new.out }
+        ensures puts { Puts 12 self.old.out.now self.old.at (decimal (number_in answer) ++ crlf) self.new.out.now self.new.at }
+        ensures within { self.old.at ≤ length self.old.out.now → self.new.at ≤ length self.old.out.now }
+    {
+        self.put_number(reply(answer));
     }
 
     // Writes the line of a yes or no, or of a count.
@@ -195,24 +223,27 @@ impl<'a> Page<'a> {
         if self.room() < 14 {
             return;
         }
-        self.put_byte(b'0');
-        self.put_whole(figure);
-        self.put_end();
+        let mut page = Page {
+            out: &mut *self.out,
+            at: self.at,
+        };
+        page.put_byte(b'0');
+        page.put_whole(figure);
+        page.put_end();
+        self.at = page.at;
     }
 
-    // Writes the line of a search from what it handed over.
-    pub fn put_told(&mut self, axes: u8, told: Result<u32, Refusal>, coords: &[u8], payloads: &[u8])
+    // Writes the line of a search from the reply number and the count that it handed over.
+    pub fn put_outcome(&mut self, axes: u8, reply: u32, count: u32, coords: &[u8], payloads: &[u8])
         ensures same { IsSame self.old.out self.new.out }
-        ensures puts_told { PutsTold axes coords.now payloads.now (number_in told) (count_in told) self.old.out.now self.old.at self.new.out.now self.new.at }
+        ensures puts_told { PutsTold axes coords.now payloads.now reply count self.old.out.now self.old.at self.new.out.now self.new.at }
         ensures within { self.old.at ≤ length self.old.out.now → self.new.at ≤ length self.old.out.now }
     {
-        let count = match told {
-            Ok(count) => count,
-            Err(refusal) => {
-                self.put_reply(Err(refusal));
-                return;
-            }
-        };
+        let refused = reply != 0;
+        if refused {
+            self.put_number(reply);
+            return;
+        }
         let n = count as usize;
         if n > room(axes, coords.len(), payloads.len()) {
             return;
@@ -224,11 +255,22 @@ impl<'a> Page<'a> {
         self.put_found(axes, count, coords, payloads);
     }
 
+    // Writes the line of a search from its answer.
+    pub fn put_told(&mut self, axes: u8, told: Result<u32, Refusal>, coords: &[u8], payloads: &[u8])
+        ensures same { IsSame self.old.out self.new.out }
+        ensures puts_told { PutsTold axes coords.now payloads.now (number_in told) (count_in told) self.old.out.now self.old.at self.new.out.now self.new.at }
+        ensures within { self.old.at ≤ length self.old.out.now → self.new.at ≤ length self.old.out.now }
+    {
+        let mut count = 0;
+        let number = tell(told, &mut count);
+        self.put_outcome(axes, number, count, coords, payloads);
+    }
+
     // Whether there is room for the longest line.
     pub fn has_room(&self, axes: u8) -> bool
         ensures { result ≡ leb (self.now.at + longest axes) (length self.now.out.now) }
     {
-        14 + (17 * (axes as usize) + 11) * 512 <= self.room()
+        has_room(axes, self.out, self.at)
     }
 
     // Answers what stands after the last line end: nothing, or a record that has none.

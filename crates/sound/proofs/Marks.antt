@@ -1,55 +1,36 @@
--- Marks that are flags, as the numbers that the laws speak of. Assumes nothing.
-use mathlib.Core.Path.{◌≡◌, refl, ap, sym, ◌∙◌, subst}
+-- What the loops over marks keep. Assumes nothing.
+use mathlib.Core.Path.{◌≡◌, refl, ap, ap₂, sym, ◌∙◌, subst}
 use mathlib.Core.Logic.{◌≢◌}
-use mathlib.Core.Bool.{Bool, true, false}
+use mathlib.Core.Bool.{Bool, true, false, not, ◌&&◌}
 use mathlib.Core.List.{List, [], ◌∷◌}
 use Prim.Native.Nat.{ℕ, zero, suc, ◌+◌, ◌-◌, ◌*◌, ◌<◌, ◌≤◌}
 use native.Mathlib.Omega.{arith}
-use lib.ListN.{length, replicate, length-map, get_or, set, drop}
+use lib.ListN.{length, get_or, drop}
 use lib.Dec.{eqb}
-use Rattle.std.specs.Int.{from_bool}
 use Rattle.std.specs.List.{list_all}
-use Rattle.std.proofs.lemmas.List.{get_or-map}
-use Rattle.std.proofs.lemmas.Bool.{eqb-true, eqb-false}
-use Rattle.trees.proofs.Marks.{Claims, claims_yes, AllMet, Frees, Freeing, freeing_start, freeing_step, freeing_end, freeing_over, Linked}
+use Rattle.std.proofs.lemmas.Bool.{eqb-true, eqb-false, ne_eqb, and_parts}
+use Rattle.trees.proofs.Marks.{Claims, AllMet, Frees, Freeing, freeing_start, freeing_step, freeing_end, freeing_over, Linked}
 use Rattle.pool.specs.Writes.{kid}
 use Rattle.trees.proofs.Tests.{no_true}
-use Rattle.sound.specs.Flags.{flags}
-
-pub flags_length : (m : List Bool) → length (flags m) ≡ length m
-flags_length m = length-map m _
-
--- ---- one number
-flags_set : (m : List Bool) (p : ℕ) → flags (set m p true) ≡ set (flags m) p 1
-flags_set [] p = refl
-flags_set (b ∷ m) zero = refl
-flags_set (b ∷ m) (suc p) = ap (λ l. from_bool b ∷ l) (flags_set m p)
-
-pub claims_flag : (m : List Bool) (p : ℕ) → p < length m → get_or m p false ≡ false → Claims (flags m) (flags (set m p true)) p true
-claims_flag m p h e =
-    subst (λ l. Claims (flags m) l p true) (sym (flags_set m p))
-    (claims_yes (flags m) p (omega (arith, flags_length m)) (get_or-map from_bool m p false 0 h ∙ ap from_bool e))
 
 -- ---- all of them but 0
-all_hold : (m : List Bool) → list_all (λ b. b) m ≡ true → (p : ℕ) → p < length (flags m) → get_or (flags m) p 0 ≢ 0
+all_hold : (m : List ℕ) → list_all (λ x. not (eqb x 0)) m ≡ true → (p : ℕ) → p < length m → get_or m p 0 ≢ 0
 all_hold [] e p h z = absurd (omega arith)
-all_hold (true ∷ m) e zero h z = absurd (omega (arith, z))
-all_hold (true ∷ m) e (suc p) h z = all_hold m e p (omega arith) z
-all_hold (false ∷ m) e p h z = absurd (no_true e)
+all_hold (x ∷ m) e zero h z = no_true (sym (ap (λ v. not (eqb v 0) && list_all (λ x. not (eqb x 0)) m) z) ∙ e)
+all_hold (x ∷ m) e (suc p) h z = all_hold m ((and_parts (not (eqb x 0)) _ e).1) p (omega arith) z
 
-hold_all : (m : List Bool) → ((p : ℕ) → p < length (flags m) → get_or (flags m) p 0 ≢ 0) → list_all (λ b. b) m ≡ true
+hold_all : (m : List ℕ) → ((p : ℕ) → p < length m → get_or m p 0 ≢ 0) → list_all (λ x. not (eqb x 0)) m ≡ true
 hold_all [] f = refl
-hold_all (true ∷ m) f = hold_all m (λ p h. f (suc p) (omega arith))
-hold_all (false ∷ m) f = absurd (f 0 (omega arith) refl)
+hold_all (x ∷ m) f = ap₂ (λ b c. not b && c) (ne_eqb x 0 (f 0 (omega arith))) (hold_all m (λ p h. f (suc p) (omega arith)))
 
-pub all_met_is : (m : List Bool) (r : Bool) → r ≡ list_all (λ b. b) (drop 1 m) → AllMet (flags m) r
+pub all_met_is : (m : List ℕ) (r : Bool) → r ≡ list_all (λ x. not (eqb x 0)) (drop 1 m) → AllMet m r
 all_met_is [] r e = record { sure = λ t p z l. absurd (omega arith); only = λ f. e }
-all_met_is (b ∷ m) r e = record {
-  sure = λ t p z l q. at p z l (sym e ∙ t) q;
+all_met_is (x ∷ m) r e = record {
+  sure = λ t p z l. at p z l (sym e ∙ t);
   only = λ f. e ∙ hold_all m (λ p h. f (suc p) (λ q. absurd (omega arith)) (omega arith));
 }
   where
-    at : (p : ℕ) → p ≢ 0 → p < length (flags (b ∷ m)) → list_all (λ b. b) m ≡ true → get_or (flags (b ∷ m)) p 0 ≢ 0
+    at : (p : ℕ) → p ≢ 0 → p < length (x ∷ m) → list_all (λ x. not (eqb x 0)) m ≡ true → get_or (x ∷ m) p 0 ≢ 0
     at zero z l h q = absurd (z refl)
     at (suc p) z l h q = all_hold m h p (omega arith) q
 
@@ -105,8 +86,3 @@ walk_done {next} {ok} m h now q k g l = go (eqb q 0) refl
     go : (t : Bool) → eqb q 0 ≡ t → Frees next ok m h now (eqb q 0)
     go true e = subst (Frees next ok m h now) (sym e) (freeing_end next ok m h now q (length m - k) g (eqb-true q 0 e))
     go false e = subst (Frees next ok m h now) (sym e) (freeing_over next ok m h now q (length m - k) g now (eqb-false q 0 e) (none (length m) l))
-
--- nothing is marked at the start
-pub flags_none : (n : ℕ) → flags (replicate n false) ≡ replicate n 0
-flags_none zero = refl
-flags_none (suc n) = ap (λ l. 0 ∷ l) (flags_none n)

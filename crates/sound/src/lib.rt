@@ -2,8 +2,7 @@
 // All end on any bytes.
 #![tactic(auto)]
 
-ghost use Rattle.std.specs.Prelude.{◌≡◌, ◌&&◌, ℕ, cond, ◌^◌, ◌<◌, drop, length};
-ghost use Rattle.std.specs.List.{list_all};
+ghost use Rattle.std.specs.Prelude.{◌≡◌, ◌&&◌, ℕ, cond, ◌^◌, ◌<◌, length};
 ghost use Rattle.std.specs.Float.Ieee.{le};
 ghost use Rattle.std.specs.Float.{nan};
 ghost use Rattle.floats.specs.Values.{plus_zero};
@@ -11,8 +10,7 @@ ghost use Rattle.words.specs.Words.{words};
 ghost use Rattle.model.specs.Boxes.{bounded, mid, side};
 ghost use Rattle.trees.proofs.Areas.{higher, lower};
 ghost use Rattle.trees.proofs.Checks.{counts};
-ghost use Rattle.trees.proofs.Marks.{Claims, Frees, Rest};
-ghost use Rattle.sound.specs.Flags.{flags};
+ghost use Rattle.trees.proofs.Marks.{Claims, AllMet, Frees, Rest};
 
 use axis::Side;
 use pool::{child, count, group, next};
@@ -21,28 +19,29 @@ use pool::{child, count, group, next};
 const LIMIT: f64 = f64::from_bits(0x5f30_0000_0000_0000);
 
 // Whether number p is met for the first time; it is then marked.
-pub fn claim(marks: &mut [bool], p: u32) -> bool
-    ensures { Claims (flags marks.old) (flags marks.new) p result }
+// Kept: marks are numbers and no `bool`, since any mark but 0 counts as met, also one that a caller wrote.
+pub fn claim(marks: &mut [u8], p: u32) -> bool
+    ensures { Claims marks.old marks.new p result }
 {
     let i = p as usize;
-    if i >= marks.len() || marks[i] {
+    if i >= marks.len() || marks[i] != 0 {
         return false;
     }
-    marks[i] = true;
+    marks[i] = 1;
     true
 }
 
 // Whether every number but 0 was met.
-fn all_met(marks: &[bool]) -> bool
-    ensures { result ≡ list_all (λ b. b) (drop 1 marks.now) }
+fn all_met(marks: &[u8]) -> bool
+    ensures { AllMet marks.now result }
 {
-    marks.iter().skip(1).copied().all(|met| met)
+    marks.iter().skip(1).all(|mark| *mark != 0)
 }
 
 // Whether the free ones, from what follows 0 on, form a list of numbers that were not met before; they are marked.
-fn walk_free<F: Fn(u32) -> u32>(after: F, marks: &mut [bool]) -> bool
+fn walk_free<F: Fn(u32) -> u32>(after: F, marks: &mut [u8]) -> bool
     requires { F.IsAlwaysCallable after }
-    ensures { (next : ℕ → ℕ) → ((p r : ℕ) → p < 2 ^ 32 → F.post after p r → r ≡ next p) → Frees next (λ p. p < length (flags marks.old)) (flags marks.old) (next 0) (flags marks.new) result }
+    ensures { (next : ℕ → ℕ) → ((p r : ℕ) → p < 2 ^ 32 → F.post after p r → r ≡ next p) → Frees next (λ p. p < length marks.old) marks.old (next 0) marks.new result }
 {
     let mut p = after(0);
     for _ in 0..marks.len() {
@@ -58,14 +57,8 @@ fn walk_free<F: Fn(u32) -> u32>(after: F, marks: &mut [bool]) -> bool
 }
 
 // Whether what was not met is free: every place and every group is met once with the lists of free ones.
-pub fn rest_is_free(
-    nodes: &[u8],
-    links: &[u8],
-    ways: u8,
-    homes: &mut [bool],
-    used: &mut [bool],
-) -> bool
-    ensures { Rest ways (words nodes.now) (words links.now) (flags homes.old) (flags used.old) result }
+pub fn rest_is_free(nodes: &[u8], links: &[u8], ways: u8, homes: &mut [u8], used: &mut [u8]) -> bool
+    ensures { Rest ways (words nodes.now) (words links.now) homes.old used.old result }
 {
     if !walk_free(|p| next(links, p), homes) {
         return false;

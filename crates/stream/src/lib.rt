@@ -14,7 +14,7 @@ use commands::{Command, Program, parse};
 use execution::answer;
 use fields::find;
 use geometry::region::{Place, Region};
-use lines::line_of;
+use lines::record_of;
 use replies::Page;
 use tree::kind::Tree;
 
@@ -41,7 +41,7 @@ pub struct Progress {
 fn said<R: Program>(line: &[u8], start: bool) -> Option<Command<R, R::Point>>
     ensures { option_map (call_in R.sides R.Point.place) result ≡ ended (understood R.made R.kind.axes) (begun start line.now) }
 {
-    parse(line_of(line, start)?)
+    parse(record_of(line, start)?)
 }
 
 // Answers the first line of the text.

@@ -1,2 +1,3 @@
 -- What is proved of both trees.
+pub mod Far
 pub mod Zips

@@ -1,5 +1,5 @@
 // What tells one tree from the other. A box stands for its tree: `Rectangle` for the quadtree, `Cube` for the octree.
-ghost use Rattle.std.specs.Prelude.{◌≡◌, ◌<◌, ◌≤◌, ℕ, length, take};
+ghost use Rattle.std.specs.Prelude.{◌≡◌, ◌≤◌, ℕ, [], ◌∷◌, length, take};
 ghost use Rattle.model.specs.Boxes.{acceptable};
 ghost use Rattle.model.specs.Calls.{Kind, ways};
 ghost use Rattle.model.specs.Soundness.{All};
@@ -32,10 +32,9 @@ pub trait Tree: Region {
     fn order() -> &'static [u8]
         ensures { result.now ≡ kind.order };
 
-    // The point of the first numbers.
-    fn point(numbers: &[f64]) -> Self::Point
-        requires { kind.axes ≤ length numbers.now }
-        ensures { Self.Point.place result ≡ take kind.axes numbers.now };
+    // The point of these numbers, of which it takes as many as it has axes.
+    fn point(x: f64, y: f64, z: f64) -> Self::Point
+        ensures { Self.Point.place result ≡ take kind.axes (x ∷ y ∷ z ∷ []) };
 
     // The box from a corner, with an extent on each axis.
     fn region(corner: Self::Point, extent: Self::Point) -> Self
@@ -52,14 +51,12 @@ pub trait Tree: Region {
         ensures value { result ≡ acceptable (Self.sides self) }
         ensures numbers { All F64Side (Self.sides self) };
 
-    // The point of the floats from number i on.
+    // The point of the floats from number i on; a float that is not there is 0.
     fn read(t: &[u8], i: usize) -> Self::Point
-        requires { i < 4611686018427387904 }
         ensures { Self.Point.place result ≡ floats kind.axes (pairs (words t.now)) i };
 
-    // Writes the numbers of a point from float number i on.
+    // Writes the numbers of a point from float number i on, as far as these are there.
     fn write(point: Self::Point, t: &mut [u8], i: usize)
-        requires { i < 4611686018427387904 }
         ensures { words t.new ≡ put_floats (Self.Point.place point) (words t.old) i };
 
     // What the laws of trees ask of a kind.

@@ -34,10 +34,10 @@ pub fn child_index<R: Tree>(b: R, p: R::Point) -> u8
     (b.child_index(p) % (R::ways() as usize)) as u8
 }
 
-// A node with its box, and how many levels lie below it.
+// A node with its box, and how many levels lie below it: a number of any size for a search, and of 8 bits for who counts a group for each level.
 #[derive(Clone, Copy)]
-pub struct Node<R> {
+pub struct Node<R, L> {
     pub index: usize,
     pub bounds: R,
-    pub levels: u8,
+    pub levels: L,
 }

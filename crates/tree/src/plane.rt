@@ -33,11 +33,8 @@ impl Tree for Rectangle {
         &[1, 0, 3, 2]
     }
 
-    fn point(numbers: &[f64]) -> Point2D {
-        Point2D {
-            x: numbers[0],
-            y: numbers[1],
-        }
+    fn point(x: f64, y: f64, _z: f64) -> Point2D {
+        Point2D { x, y }
     }
 
     fn region(corner: Point2D, extent: Point2D) -> Rectangle {
@@ -77,13 +74,13 @@ impl Tree for Rectangle {
 
     fn read(t: &[u8], i: usize) -> Point2D {
         let x = get_float(t, i);
-        let y = get_float(t, i + 1);
+        let y = get_float(t, i.saturating_add(1));
         Point2D { x, y }
     }
 
     fn write(point: Point2D, t: &mut [u8], i: usize) {
         put_float(t, i, point.x);
-        put_float(t, i + 1, point.y);
+        put_float(t, i.saturating_add(1), point.y);
     }
 
     ghost named = { record { roomy = refl; few = Prim.omega arith; low = Prim.omega arith } };

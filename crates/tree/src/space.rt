@@ -33,12 +33,8 @@ impl Tree for Cube {
         &[0, 1, 2, 3, 4, 5, 6, 7]
     }
 
-    fn point(numbers: &[f64]) -> Point3D {
-        Point3D {
-            x: numbers[0],
-            y: numbers[1],
-            z: numbers[2],
-        }
+    fn point(x: f64, y: f64, z: f64) -> Point3D {
+        Point3D { x, y, z }
     }
 
     fn region(corner: Point3D, extent: Point3D) -> Cube {
@@ -86,15 +82,15 @@ impl Tree for Cube {
 
     fn read(t: &[u8], i: usize) -> Point3D {
         let x = get_float(t, i);
-        let y = get_float(t, i + 1);
-        let z = get_float(t, i + 2);
+        let y = get_float(t, i.saturating_add(1));
+        let z = get_float(t, i.saturating_add(2));
         Point3D { x, y, z }
     }
 
     fn write(point: Point3D, t: &mut [u8], i: usize) {
         put_float(t, i, point.x);
-        put_float(t, i + 1, point.y);
-        put_float(t, i + 2, point.z);
+        put_float(t, i.saturating_add(1), point.y);
+        put_float(t, i.saturating_add(2), point.z);
     }
 
     ghost named = { record { roomy = refl; few = Prim.omega arith; low = Prim.omega arith } };

@@ -45,7 +45,10 @@ pub fn create<R: Tree>(
     if !fits::<R>(&lent) {
         return Err(Refusal::Unsound);
     }
-    let most = decide(bounds.accepts(), capacity)?;
+    let answer = decide(bounds.accepts(), capacity);
+    let Ok(most) = answer else {
+        return answer.and(Ok(()));
+    };
     bounds.numbers();
     put_head(head, bounds, most);
     empty::<R>(nodes, links);

@@ -71,7 +71,7 @@ pub fn delete<R: Tree>(
         links,
         points,
     };
-    let Some(spot) = find_in::<R>(&lent, start, at, mark) else {
+    let Ok(spot) = find_in::<R>(&lent, start, at, mark) else {
         return Err(Refusal::Absent);
     };
     let most = capacity::<R>(head);

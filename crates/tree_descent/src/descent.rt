@@ -23,12 +23,17 @@ use tree::place::{Node, child_index, kid, point_at};
 // An undivided node, and how many nodes were noted on the way to it.
 #[derive(Clone, Copy)]
 pub struct Leaf<R> {
-    pub node: Node<R>,
+    pub node: Node<R, u8>,
     pub depth: usize,
 }
 
 // The undivided node that a point goes to; the nodes on the way are noted. A point inside the boundary is inside every box on its way, so no box is asked.
-pub fn leaf_of<R: Tree>(nodes: &[u8], from: Node<R>, point: R::Point, path: &mut [usize]) -> Leaf<R>
+pub fn leaf_of<R: Tree>(
+    nodes: &[u8],
+    from: Node<R, u8>,
+    point: R::Point,
+    path: &mut [usize],
+) -> Leaf<R>
     ensures node { record { node = result.node.index; box = R.sides result.node.bounds; levels = result.node.levels } ≡ reach (ways R.kind) (words nodes.now) (R.Point.place point) from.levels (R.sides from.bounds) from.index }
     ensures notes { Notes (way (ways R.kind) (words nodes.now) (R.Point.place point) from.levels (R.sides from.bounds) from.index) path.old 0 path.new result.depth }
 {
@@ -78,18 +83,23 @@ fn same_at<R: Tree>(points: &[u8], p: u32, point: R::Point, mark: u32) -> bool
     point.same(point_at::<R>(points, p))
 }
 
-// The first place of a list whose point is equal.
-pub fn find_in<R: Tree>(tree: &Pieces<'_>, head: u32, point: R::Point, mark: u32) -> Option<Spot>
+// The first place of a list whose point is equal, or else the last place of the list, or 0.
+pub fn find_in<R: Tree>(
+    tree: &Pieces<'_>,
+    head: u32,
+    point: R::Point,
+    mark: u32,
+) -> Result<Spot, u32>
     ensures { Spots result (seek (λ p. same (record { at = R.Point.place point; payload = mark }) (point_at R.kind.axes (words tree.now.points.now) p)) (chain (length (words tree.now.links.now)) (words tree.now.links.now) head) 0) }
 {
     let mut before: u32 = 0;
     for place in list(tree.links, head) {
         if same_at::<R>(tree.points, place, point, mark) {
-            return Some(Spot { place, before });
+            return Ok(Spot { place, before });
         }
         before = place;
     }
-    None
+    Err(before)
 }
 
 // Whether all points of a list go to child c.
@@ -105,7 +115,7 @@ fn all_go<R: Tree>(tree: &Pieces<'_>, head: u32, bounds: R, c: u8) -> bool
 }
 
 // How many groups an undivided node takes when a point comes that goes to it.
-pub fn need<R: Tree>(tree: &Pieces<'_>, node: Node<R>, capacity: u32, point: R::Point) -> u8
+pub fn need<R: Tree>(tree: &Pieces<'_>, node: Node<R, u8>, capacity: u32, point: R::Point) -> u8
     ensures { Needs capacity (point_at R.kind.axes (words tree.now.points.now)) (R.Point.place point) (words tree.now.nodes.now) (words tree.now.links.now) node.index node.levels (R.sides node.bounds) result }
 {
     let Node {

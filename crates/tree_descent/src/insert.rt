@@ -70,7 +70,7 @@ pub fn insert_within<R: Tree>(
     nodes: &mut [u8],
     links: &mut [u8],
     points: &[u8],
-    node: Node<R>,
+    node: Node<R, u8>,
     capacity: u32,
     p: u32,
 )

@@ -25,7 +25,7 @@ use tree_descent::descent::{leaf_of, need};
 use tree_descent::insert::insert_within;
 
 // Whether enough groups are free for the splits that a point brings to the undivided node that it goes to.
-fn has_room<R: Tree>(tree: &Pieces<'_>, node: Node<R>, capacity: u32, at: R::Point) -> bool
+fn has_room<R: Tree>(tree: &Pieces<'_>, node: Node<R, u8>, capacity: u32, at: R::Point) -> bool
     ensures { (b : List Side) → record { node = node.index; box = R.sides node.bounds; levels = node.levels } ≡ reach (ways R.kind) (words tree.now.nodes.now) (R.Point.place at) 32 b 1 → Rooms (ways R.kind) capacity (point_at R.kind.axes (words tree.now.points.now)) (R.Point.place at) (words tree.now.nodes.now) (words tree.now.links.now) 32 b 1 result }
 {
     let k = need(tree, node, capacity, at);
@@ -37,7 +37,7 @@ fn store<R: Tree>(
     nodes: &mut [u8],
     links: &mut [u8],
     points: &mut [u8],
-    node: Node<R>,
+    node: Node<R, u8>,
     path: &[usize],
     capacity: u32,
     at: R::Point,

@@ -30,7 +30,7 @@ pub fn contains<R: Tree>(tree: &Pieces<'_>, at: R::Point, mark: u32) -> bool
     let leaf = leaf_of(tree.nodes, root, at, &mut []);
     let start = first(tree.nodes, leaf.node.index);
     match find_in::<R>(tree, start, at, mark) {
-        Some(_) => true,
-        None => false,
+        Ok(_) => true,
+        Err(_) => false,
     }
 }

@@ -52,7 +52,7 @@ fn offer_list<R: Tree>(tree: &Pieces<'_>, head: u32, target: R::Point, table: &m
 // Offers the places of the tree at a node, nearest children first.
 pub fn knn_search_helper<R: Tree>(
     tree: &Pieces<'_>,
-    node: Node<R>,
+    node: Node<R, usize>,
     target: R::Point,
     table: &mut Table<'_>,
 )

@@ -40,7 +40,7 @@ fn collect_list<R: Tree, Q: Question<R>>(
 // a branch that is skipped costs none.
 fn collect_within<R: Tree, Q: Question<R>>(
     tree: &Pieces<'_>,
-    node: Node<R>,
+    node: Node<R, usize>,
     q: Q,
     found: &mut [u32],
     n: usize,
@@ -79,7 +79,7 @@ fn collect_within<R: Tree, Q: Question<R>>(
 // The same for any box.
 pub fn collect<R: Tree, Q: Question<R>>(
     tree: &Pieces<'_>,
-    node: Node<R>,
+    node: Node<R, usize>,
     q: Q,
     found: &mut [u32],
     n: usize,

@@ -8,7 +8,6 @@ ghost use Rattle.pieces.specs.Views.{seen};
 ghost use Rattle.trees.specs.Points.{point_at};
 ghost use Rattle.trees.specs.Pieces.{Decides, Sane};
 ghost use Rattle.trees.proofs.Checks.{Checks};
-ghost use Rattle.sound.specs.Flags.{flags};
 
 use geometry::region::Region;
 use pieces::Pieces;
@@ -23,13 +22,13 @@ use tree_sound_leaves::leaf::check_leaf;
 // Whether the words hold a tree at a node, which is there, with this box and this area and so many levels below it; what it meets is marked.
 fn check_node<R: Bounded>(
     tree: &Pieces<'_>,
-    node: Node<R>,
+    node: Node<R, u8>,
     area: R::Area,
     capacity: u32,
-    homes: &mut [bool],
-    used: &mut [bool],
+    homes: &mut [u8],
+    used: &mut [u8],
 ) -> bool
-    ensures { Checks (ways R.kind) capacity (point_at R.kind.axes (words tree.now.points.now)) (words tree.now.nodes.now) (words tree.now.links.now) node.levels (R.sides node.bounds) (R.bounds area) node.index (flags homes.old) (flags used.old) (flags homes.new) (flags used.new) result }
+    ensures { Checks (ways R.kind) capacity (point_at R.kind.axes (words tree.now.points.now)) (words tree.now.nodes.now) (words tree.now.links.now) node.levels (R.sides node.bounds) (R.bounds area) node.index homes.old used.old homes.new used.new result }
 {
     let bounds = node.bounds;
     let k = group(tree.nodes, node.index);
@@ -83,8 +82,8 @@ pub fn sound<R: Bounded>(tree: &Pieces<'_>) -> bool
         levels: 32,
     };
     // A mark for each place, and for each group that this tree has room for.
-    let mut homes = [false; 513];
-    let mut used = [false; 86];
+    let mut homes = [0u8; 513];
+    let mut used = [0u8; 86];
     let groups = &mut used[..R::rows() as usize + 1];
     if !check_node::<R>(tree, root, bounds.whole(), n, &mut homes, groups) {
         return false;

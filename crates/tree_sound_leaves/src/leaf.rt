@@ -3,7 +3,6 @@ ghost use Rattle.words.specs.Words.{words};
 ghost use Rattle.model.specs.Calls.{ways};
 ghost use Rattle.trees.specs.Points.{point_at};
 ghost use Rattle.trees.proofs.Checks.{LeafChecks, ListChecks};
-ghost use Rattle.sound.specs.Flags.{flags};
 
 use crate::area::Bounded;
 use geometry::region::{Place, Region};
@@ -20,9 +19,9 @@ fn check_list<R: Bounded>(
     tail: u32,
     n: u32,
     area: R::Area,
-    homes: &mut [bool],
+    homes: &mut [u8],
 ) -> bool
-    ensures { ListChecks (point_at R.kind.axes (words tree.now.points.now)) (words tree.now.links.now) (R.bounds area) head tail n (flags homes.old) (flags homes.new) result }
+    ensures { ListChecks (point_at R.kind.axes (words tree.now.points.now)) (words tree.now.links.now) (R.bounds area) head tail n homes.old homes.new result }
 {
     // Taken out once: for all that the compiler knows, a mark is written over a field of the struct.
     let links = tree.links;
@@ -54,9 +53,9 @@ pub fn check_leaf<R: Bounded>(
     levels: u8,
     area: R::Area,
     capacity: u32,
-    homes: &mut [bool],
+    homes: &mut [u8],
 ) -> bool
-    ensures { LeafChecks (ways R.kind) capacity (point_at R.kind.axes (words tree.now.points.now)) (words tree.now.nodes.now) (words tree.now.links.now) levels (R.bounds area) index (flags homes.old) (flags homes.new) result }
+    ensures { LeafChecks (ways R.kind) capacity (point_at R.kind.axes (words tree.now.points.now)) (words tree.now.nodes.now) (words tree.now.links.now) levels (R.bounds area) index homes.old homes.new result }
 {
     let n = count(tree.nodes, index);
     if (levels > 0) & (n > capacity) {

@@ -27,9 +27,9 @@ seek f [] z = record { place = 0; before = z }
 seek f (q ∷ l) z = elim (f q) [ true ↦ record { place = q; before = z } | false ↦ seek f l q ]
 
 -- ---- the loop
-pub seek_end : (f : ℕ → Bool) (old : List ℕ) (z : ℕ) → old ≡ [] → (seek f old z).place ≡ 0
+pub seek_end : (f : ℕ → Bool) (old : List ℕ) (z : ℕ) → old ≡ [] → seek f old z ≡ record { place = 0; before = z }
 unfolding seek
-seek_end f old z e = ap (λ (l : List ℕ). (seek f l z).place) e
+seek_end f old z e = ap (λ (l : List ℕ). seek f l z) e
 
 pub seek_hit : (f : ℕ → Bool) (old left : List ℕ) (q z : ℕ) (t : Bool) → old ≡ q ∷ left → t ≡ f q → t ≡ true → record { place = q; before = z } ≡ seek f old z
 unfolding seek

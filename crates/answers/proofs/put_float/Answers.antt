@@ -7,4 +7,4 @@ use Rattle.answers.proofs.Writes.{bytes8_is}
 use Rattle.answers.proofs.put_float.Goals as goal
 
 pub returns : goal.returns
-returns c = c.put_bytes.ensures.inside (omega (arith, c.requires)) ∙ ap (sets _ _) (c.to_le_bytes.ensures ∙ bytes8_is _ ∙ ap (bytes 8) c.to_bits.ensures)
+returns c = c.store.ensures ∙ ap (sets _ _) (c.to_le_bytes.ensures ∙ bytes8_is _ ∙ ap (bytes 8) c.to_bits.ensures)

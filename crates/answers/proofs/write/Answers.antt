@@ -11,11 +11,14 @@ loop-j-init c = answering_start _ _ _ _ _
 pub put_place-requires : goal.put_place-requires
 put_place-requires c = omega (arith, c.loop-j.invariant.places.same, fits_place _ _ _ _ _ (c.requires) (c.loop-j-test.true))
 
+pub store-requires : goal.store-requires
+store-requires c = omega (arith, c.loop-j.invariant.marks.same, fits_mark _ _ _ _ _ (c.requires) (c.loop-j-test.true))
+
 pub overflow_mul-j : goal.overflow_mul-j
 overflow_mul-j c = omega (arith, fits_mark _ _ _ _ _ (c.requires) (c.loop-j-test.true))
 
 pub loop-j-preserved : goal.loop-j-preserved
-loop-j-preserved c = answering_step _ _ _ _ _ _ _ _ _ _ _ _ (c.loop-j.invariant) (c.loop-j-test.true) refl (c.payload-m.ensures) (c.put_place.auto.coords) (c.put_place.ensures) (c.put_bytes.auto.t) (c.put_bytes.ensures.inside (omega (arith, c.loop-j.invariant.marks.same, fits_mark _ _ _ _ _ (c.requires) (c.loop-j-test.true))) ∙ ap (sets _ _) (c.to_le_bytes.ensures ∙ bytes4_is _))
+loop-j-preserved c = answering_step _ _ _ _ _ _ _ _ _ _ _ _ (c.loop-j.invariant) (c.loop-j-test.true) refl (c.payload-m.ensures) (c.put_place.auto.coords) (c.put_place.ensures) (c.store.auto.t) (c.store.ensures ∙ ap (sets _ _) (c.to_le_bytes.ensures ∙ bytes4_is _))
 
 pub shape_of-coords : goal.shape_of-coords
 shape_of-coords c = c.loop-j.invariant.places.same

@@ -1,8 +1,9 @@
 -- `commands::parse`: the goals that the search leaves. Assumes nothing.
 use mathlib.Core.Path.{ap, ◌∙◌, refl}
+use native.Mathlib.Omega.{arith}
 use Rattle.std.specs.Prelude.{option_map}
 use Rattle.commands.specs.Commands.{call_in}
-use Rattle.commands.proofs.Said.{Spells, says_not, says_other, says_some, spelt, create_is, insert_is, delete_is, contains_is, range_is, knn_is, box_is, len_is, clear_is}
+use Rattle.commands.proofs.Said.{Spells, says_not, says_other, says_some, first_of, next_of, spelt, create_is, insert_is, delete_is, contains_is, range_is, knn_is, box_is, len_is, clear_is}
 use Rattle.commands.proofs.parse.Goals as goal
 use Rattle.commands.proofs.parse.Goals.{in-Create, in-Insert, in-Delete, in-Contains, in-Range, in-Knn, in-Box, in-Len, in-Clear}
 
@@ -16,16 +17,18 @@ returns-in_err-whole g c =
 
 pub returns : goal.returns
 returns g c =
-    let first = c.point-point.ensures in
+    let few = g.met.R.Program.few_axes in
     let many = c.axes-axes.ensures in
+    let first = c.point-point.ensures ∙ first_of c.numbers_of.new.numbers _ g.R.Tree.kind.axes few (omega (arith, c.numbers_of.auto.numbers)) in
+    let next = c.point-extent.ensures ∙ next_of c.numbers_of.new.numbers _ g.R.Tree.kind.axes c.axes-axes.result few (omega (arith, c.numbers_of.auto.numbers, many, few)) many in
     let call : Spells g.R.Region.sides g.R.Point.Place.place g.R.Tree.kind.axes c.numbers_of.new.numbers c.in_ok-whole.whole c.in_ok-word.word c.match-word.command = elim c.match-word.branch [
-      | in-Create w ↦ spelt _ _ _ _ _ w.in-Create.is w.command-is (create_is _ _ _ _ _ _ _ _ _ g.met.R.Program.few_axes many first c.point-extent.ensures w.region.ensures)
+      | in-Create w ↦ spelt _ _ _ _ _ w.in-Create.is w.command-is (create_is _ _ _ _ _ _ _ _ _ few many first next w.region.ensures)
       | in-Insert w ↦ spelt _ _ _ _ _ w.in-Insert.is w.command-is (insert_is _ _ _ _ _ _ first)
       | in-Delete w ↦ spelt _ _ _ _ _ w.in-Delete.is w.command-is (delete_is _ _ _ _ _ _ first)
       | in-Contains w ↦ spelt _ _ _ _ _ w.in-Contains.is w.command-is (contains_is _ _ _ _ _ _ first)
       | in-Range w ↦ spelt _ _ _ _ _ w.in-Range.is w.command-is (range_is _ _ _ _ _ _ _ many first)
       | in-Knn w ↦ spelt _ _ _ _ _ w.in-Knn.is w.command-is (knn_is _ _ _ _ _ _ first)
-      | in-Box w ↦ spelt _ _ _ _ _ w.in-Box.is w.command-is (box_is _ _ _ _ _ _ _ _ _ g.met.R.Program.few_axes many first c.point-extent.ensures w.region-in-Box.ensures)
+      | in-Box w ↦ spelt _ _ _ _ _ w.in-Box.is w.command-is (box_is _ _ _ _ _ _ _ _ _ few many first next w.region-in-Box.ensures)
       | in-Len w ↦ spelt _ _ _ _ _ w.in-Len.is w.command-is (len_is _ _ _ _ _)
       | in-Clear w ↦ spelt _ _ _ _ _ w.in-Clear.is w.command-is (clear_is _ _ _ _ _)
     ] in

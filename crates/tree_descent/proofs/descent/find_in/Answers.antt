@@ -5,7 +5,7 @@ use mathlib.Core.List.{List}
 use Rattle.model.specs.Trees.{same}
 use Rattle.words.specs.Words.{words}
 use Rattle.trees.specs.Points.{point_at}
-use Rattle.trees.proofs.Finds.{Place, chain_some, seek, seek_end, seek_hit, seek_next}
+use Rattle.trees.proofs.Finds.{chain_some, seek, seek_end, seek_hit, seek_next}
 use Rattle.tree.specs.Lists.{rest}
 use Rattle.tree_descent.proofs.descent.find_in.Goals as goal
 
@@ -19,4 +19,4 @@ pub loop-place-preserved : goal.loop-place-preserved
 loop-place-preserved g c = seek_next _ _ _ _ _ _ c.in-Some.ensures.steps c.same_at.ensures c.if-same_at.false ∙ c.loop-place.invariant
 
 pub returns : goal.returns
-returns g c = ap (λ (s : Place). s.place) (sym c.loop-place.invariant) ∙ seek_end _ _ _ c.in-None.ensures.steps.0
+returns g c = sym (seek_end _ _ _ c.in-None.ensures.steps.0) ∙ c.loop-place.invariant

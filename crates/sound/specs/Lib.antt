@@ -1,2 +1,0 @@
--- Marks as numbers. Definitions only.
-pub mod Flags
